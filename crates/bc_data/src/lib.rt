@@ -1,0 +1,9 @@
+//! The data of Bristlecone: values, bodies, invocations, changes, and accepted programs.
+#![tactic(auto)]
+
+pub mod ids;
+pub mod list;
+pub mod program;
+pub mod run;
+pub mod task_set;
+pub mod text;

@@ -1,0 +1,1 @@
+// The small form of programs that `serial` runs.
