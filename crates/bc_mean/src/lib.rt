@@ -1,0 +1,4 @@
+//! The source meaning: stores, enabled invocations, what an invocation does, and the serial run.
+#![tactic(auto)]
+
+pub mod plain;
