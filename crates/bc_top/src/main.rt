@@ -1,6 +1,7 @@
 //! The program: commands, the top calls and `main`.
 #![tactic(auto)]
 
+mod run;
 mod small;
 
 fn main() {}

@@ -1,0 +1,6 @@
+pub mod Turns
+pub mod Enabling
+pub mod Performing
+pub mod Turning
+pub mod Going
+pub mod Ending
