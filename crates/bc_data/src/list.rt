@@ -1,6 +1,9 @@
 // A vector that contracts see as a list.
 
-ghost use Rattle.std.specs.Prelude.{◌≡◌, ℕ, ◌+◌, ◌<◌, ◌≤◌, ◌==◌, [], ◌∷◌, ◌++◌, length, take, insert, remove, swap, slice_get, slice_set, slice_index_or, option_copied, option_to_list, IfOk, IfErr, IfSome, OnOk, OnErr, if◌then◌else◌};
+ghost use Rattle.std.specs.Prelude.{◌≡◌, ℕ, ◌+◌, ◌-◌, ◌^◌, ◌<◌, ◌≤◌, ◌==◌, [], ◌∷◌, ◌++◌, length, take, insert, remove, swap, swap_remove, slice_get, slice_set, slice_index_or, option_copied, option_to_list, IfOk, IfErr, IfSome, OnOk, OnErr, if◌then◌else◌};
+ghost use Rattle.std.specs.List.{AllZip, list_any};
+ghost use Rattle.std.specs.Slice.Iter.{iter_rest, iter_steps};
+ghost use Rattle.std.specs.Iterator.Runs.{EveryRun, ItemsMapTo};
 
 use std::alloc::{AllocError, AllocFailed, Global};
 use std::marker::Model;
@@ -114,6 +117,91 @@ impl<T> List<T> {
         self.items.remove(index)
     }
 
+    /// The first element, if there is one.
+    pub fn first(&self) -> Option<&T>
+        ensures { option_copied result ≡ slice_get self.now 0 }
+    {
+        self.items.as_slice().first()
+    }
+
+    /// The last element, if there is one.
+    pub fn last(&self) -> Option<&T>
+        ensures { option_copied result ≡ slice_get self.now (length self.now - 1) }
+    {
+        self.items.as_slice().last()
+    }
+
+    /// The elements, in order.
+    pub fn iter(&self) -> Iter<'_, T>
+        ensures rest { iter_rest result ≡ self.now }
+        ensures runs { EveryRun (iter_steps {A = T}) (λ p. ItemsMapTo p (λ x. x.now) (iter_rest p.from)) }
+    {
+        self.items.as_slice().iter()
+    }
+
+    /// Whether an element equals this one.
+    pub fn contains(&self, value: &T) -> bool
+    where
+        T: PartialEq,
+        ensures { result ≡ list_any (λ x. T.eq x value.now) self.now }
+    {
+        self.items.as_slice().contains(value)
+    }
+
+    /// Puts an element at a place; those from there on move down. On `Err` the list is as it was.
+    pub fn insert(&mut self, index: usize, value: T) -> Result<(), AllocFailed<T>>
+        requires { index ≤ length self.old }
+        ensures ok { OnOk result (self.new ≡ insert self.old index value) }
+        ensures err { OnErr result (self.new ≡ self.old) }
+        ensures value_returned { IfErr result (λ failed. failed.value ≡ value) }
+    {
+        self.items.insert(index, value)
+    }
+
+    /// Takes the element at a place out and puts the last in its place.
+    pub fn swap_remove(&mut self, index: usize) -> T
+        requires { index < length self.old }
+        ensures value { result ≡ slice_index_or self.old index result }
+        ensures rest { self.new ≡ swap_remove self.old index result }
+    {
+        self.items.swap_remove(index)
+    }
+
+    /// Exchanges the elements at two places.
+    pub fn swap(&mut self, first: usize, second: usize)
+        requires first_in_bounds { first < length self.old }
+        requires second_in_bounds { second < length self.old }
+        ensures { self.new ≡ swap self.old first second }
+    {
+        self.items.swap(first, second);
+    }
+
+    /// Keeps only this many of the first elements.
+    pub fn truncate(&mut self, len: usize)
+    where
+        T: Drop,
+        ensures { self.new ≡ take len self.old }
+    {
+        self.items.truncate(len);
+    }
+
+    /// Takes every element out.
+    pub fn clear(&mut self)
+    where
+        T: Drop,
+        ensures { self.new ≡ [] }
+    {
+        self.items.clear();
+    }
+
+    /// Moves the elements of another list to the end of this one. On `Err` both are as they were.
+    pub fn append(&mut self, other: &mut List<T>) -> Result<(), AllocError>
+        ensures ok { OnOk result ((self.new ≡ self.old ++ other.old) × (other.new ≡ [])) }
+        ensures err { OnErr result ((self.new ≡ self.old) × (other.new ≡ other.old)) }
+    {
+        self.items.append(&mut other.items)
+    }
+
     /// Makes room for this many more elements. The elements are as they were.
     pub fn reserve(&mut self, additional: usize) -> Result<(), AllocError>
         ensures { self.new ≡ self.old }
@@ -138,5 +226,54 @@ impl<T: Copy> List<T> {
         ensures err { OnErr result (self.new ≡ self.old) }
     {
         self.items.extend_from_slice(other)
+    }
+}
+
+impl<T: Clone> List<T> {
+    /// A list equal to this one, where a clone of an element equals it, as for numbers and for texts.
+    pub fn copy(&self, alloc: Global) -> Result<Self, AllocError>
+        requires { (x y : T) → T.is_clone x y → y ≡ x }
+        ensures { IfOk result (λ l. l ≡ self.now) }
+    {
+        Ok(List {
+            items: Vec::from_clones(alloc, self.items.as_slice())?,
+        })
+    }
+}
+
+impl<T: Clone> Clone for List<T> {
+    ghost is_clone = { AllZip T.is_clone };
+
+    fn clone(&self) -> Result<Self, AllocError> {
+        Ok(List {
+            items: self.items.clone()?,
+        })
+    }
+}
+
+impl<T> Index<usize> for List<T> {
+    type Output = T;
+
+    ghost can_index = { λ l i. i < length l };
+
+    ghost index_gives = { λ l i x. x ≡ slice_index_or l i x };
+
+    fn index(&self, index: usize) -> &T
+        requires { index < length self.now }
+        ensures { result.now ≡ slice_index_or self.now index result.now }
+    {
+        &self.items.as_slice()[index]
+    }
+}
+
+impl<'a, T> IntoIterator for &'a List<T> {
+    type Item = &'a T;
+
+    type IntoIter = Iter<'a, T>;
+
+    ghost into_iter_gives = { λ l r. (iter_rest r ≡ l.now) × (length (iter_rest r) < 2 ^ 64) × EveryRun (iter_steps {A = T}) (λ p. ItemsMapTo p (λ x. x.now) (iter_rest p.from)) };
+
+    fn into_iter(self) -> Iter<'a, T> {
+        self.items.as_slice().iter()
     }
 }
