@@ -3,12 +3,17 @@
 ghost use Rattle.std.specs.Prelude.{◌≡◌, ℕ, ◌+◌, ◌-◌, ◌^◌, ◌<◌, ◌≤◌, ◌==◌, [], ◌∷◌, ◌++◌, length, take, insert, remove, swap, swap_remove, slice_get, slice_set, slice_index_or, option_copied, option_to_list, IfOk, IfErr, IfSome, OnOk, OnErr, if◌then◌else◌};
 ghost use Rattle.std.specs.List.{AllZip, list_any};
 ghost use Rattle.std.specs.Slice.Iter.{iter_rest, iter_steps};
-ghost use Rattle.std.specs.Iterator.Runs.{EveryRun, ItemsMapTo};
+ghost use Rattle.std.specs.Iterator.Runs.{EveryRun, ItemsAre, ItemsMapTo};
+ghost use Rattle.std.specs.Vec.Iter.{into_iter_steps, into_iter_items, into_iter_len};
+ghost use Rattle.std.specs.declared.alloc.Global.{Global as Heap};
+ghost use Rattle.std.specs.Borrow.{Lends, sem};
+ghost use Rattle.bc_data.specs.contracts.list.List.{the_row};
 
 use std::alloc::{AllocError, AllocFailed, Global};
 use std::marker::Model;
-use std::ops::Index;
+use std::ops::{Index, IndexMut};
 use std::slice::Iter;
+use std::vec::IntoIter;
 
 /// A growable list. It has the calls of `Vec` under their names, and contracts see it as its elements.
 #[derive(Debug, Drop)]
@@ -266,6 +271,28 @@ impl<T> Index<usize> for List<T> {
     }
 }
 
+impl<T> IndexMut<usize> for List<T> {
+    fn index_mut(&mut self, index: usize) -> &mut T
+        requires { index < length self.old }
+        ensures* writes_back { sem 𝓛 (Lends (the_row T.row) T.row self.entry result (slice_set self.old index)) }
+        ensures value { result.now ≡ slice_index_or self.old index result.now }
+    {
+        &mut self.items[index]
+    }
+}
+
+impl<T: Drop> IntoIterator for List<T> {
+    type Item = T;
+
+    type IntoIter = IntoIter<T, Global>;
+
+    ghost into_iter_gives = { λ l r. (into_iter_items r ≡ l) × (into_iter_len r ≡ length l) × (into_iter_len r < 2 ^ 64) × EveryRun (into_iter_steps {X = T} {Z = Heap}) (λ p. ItemsAre p (into_iter_items p.from)) };
+
+    fn into_iter(self) -> IntoIter<T, Global> {
+        self.into_vec().into_iter()
+    }
+}
+
 impl<'a, T> IntoIterator for &'a List<T> {
     type Item = &'a T;
 
@@ -275,5 +302,59 @@ impl<'a, T> IntoIterator for &'a List<T> {
 
     fn into_iter(self) -> Iter<'a, T> {
         self.items.as_slice().iter()
+    }
+}
+
+#[cfg(test)]
+mod tests {
+    use super::*;
+    use std::test::Fail;
+
+    #[test]
+    fn grows_and_shrinks(rt: HostRuntime) -> Result<(), Fail> {
+        let alloc = rt.alloc();
+        let mut list = List::with_capacity(alloc, 2)?;
+        list.push(3)?;
+        list.push(5)?;
+        list.reserve(4)?;
+        list.insert(1, 4)?;
+        list.extend_from_slice(&[6, 7])?;
+        let mut more = List::from_slice(alloc, &[8, 9])?;
+        list.append(&mut more)?;
+        assert_eq!(rt; list.as_slice(), [3, 4, 5, 6, 7, 8, 9].as_slice());
+        assert!(rt; more.is_empty());
+        list[5] = 1;
+        list.swap(0, 6);
+        assert_eq!(rt; list.remove(1), 4);
+        assert_eq!(rt; list.swap_remove(1), 5);
+        list.truncate(4);
+        assert_eq!(rt; list.as_slice(), [9, 3, 6, 7].as_slice());
+        assert_eq!(rt; list.first(), Some(&9));
+        assert_eq!(rt; list.last(), Some(&7));
+        assert!(rt; list.contains(&6));
+        assert!(rt; !list.contains(&8));
+        list.clear();
+        assert_eq!(rt; list.len(), 0);
+        Ok(())
+    }
+
+    #[test]
+    fn copies_numbers_and_texts(rt: HostRuntime) -> Result<(), Fail> {
+        let alloc = rt.alloc();
+        let mut texts = List::new(alloc);
+        texts.push(Bytes::from_slice(alloc, b"one")?)?;
+        texts.push(Bytes::from_slice(alloc, b"two")?.copy(alloc)?)?;
+        let copy = texts.copy(alloc)?;
+        let clone = copy.clone()?;
+        texts.clear();
+        let mut joined = Bytes::new(alloc);
+        for text in &copy {
+            joined.extend_from_slice(text.as_slice())?;
+        }
+        for text in clone {
+            joined.extend_from_slice(text.as_slice())?;
+        }
+        assert_eq!(rt; joined.as_slice(), b"onetwoonetwo".as_slice());
+        Ok(())
     }
 }

@@ -188,3 +188,50 @@ impl Outcome {
         })
     }
 }
+
+#[cfg(test)]
+mod tests {
+    use super::*;
+    use std::test::Fail;
+
+    #[test]
+    fn copies_an_outcome(rt: HostRuntime) -> Result<(), Fail> {
+        let alloc = rt.alloc();
+        let body = Body {
+            kind: Kind::Ints,
+            cells: List::from_slice(alloc, &[Value::Int(-4), Value::New(0)])?,
+            flags: 5,
+            tags: List::from_slice(alloc, &[TagRef::New(0)])?,
+        };
+        let mut made = List::new(alloc);
+        made.push(body.copy(alloc)?)?;
+        let mut bodies = List::new(alloc);
+        bodies.push(Written { id: 2, body }.copy(alloc)?)?;
+        let changes = Changes {
+            bodies,
+            made,
+            tags: List::from_slice(alloc, &[3])?,
+            text: Bytes::from_slice(alloc, b"done")?,
+        };
+        let ran = Ran::Commit(changes.copy(alloc)?).copy(alloc)?;
+        let touched = List::from_slice(alloc, &[2])?;
+        let copy = Outcome { ran, touched }.copy(alloc)?;
+        assert_eq!(rt; copy.touched.as_slice(), [2].as_slice());
+        let Ran::Commit(copied) = copy.ran else {
+            assert!(rt; false);
+            return Ok(());
+        };
+        assert_eq!(rt; copied.text.as_slice(), b"done".as_slice());
+        assert_eq!(rt; copied.bodies.len(), 1);
+        assert_eq!(rt; copied.made.len(), 1);
+        let Some(written) = copied.bodies.first() else {
+            assert!(rt; false);
+            return Ok(());
+        };
+        assert_eq!(rt;
+            written.body.cells.as_slice(),
+            [Value::Int(-4), Value::New(0)].as_slice()
+        );
+        Ok(())
+    }
+}

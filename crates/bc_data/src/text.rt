@@ -40,3 +40,41 @@ pub fn read_decimal(text: &[u8]) -> Option<u64>
         Err(_) => None,
     }
 }
+
+#[cfg(test)]
+mod tests {
+    use super::*;
+    use std::test::Fail;
+
+    #[test]
+    fn writes_decimal_texts(rt: HostRuntime) -> Result<(), Fail> {
+        let alloc = rt.alloc();
+        assert_eq!(rt; decimal(alloc, -120)?.as_slice(), b"-120".as_slice());
+        assert_eq!(rt; decimal(alloc, 0)?.as_slice(), b"0".as_slice());
+        assert_eq!(rt;
+            natural(alloc, u64::MAX)?.as_slice(),
+            b"18446744073709551615".as_slice()
+        );
+        Ok(())
+    }
+
+    #[test]
+    fn reads_decimal_texts(rt: HostRuntime) {
+        assert_eq!(rt; read_decimal(b"0"), Some(0));
+        assert_eq!(rt; read_decimal(b"1203"), Some(1203));
+        assert_eq!(rt; read_decimal(b"18446744073709551615"), Some(u64::MAX));
+        assert_eq!(rt; read_decimal(b"18446744073709551616"), None);
+        for text in [
+            b"".as_slice(),
+            b"00",
+            b"07",
+            b"+7",
+            b"-7",
+            b"7 ",
+            b"7a",
+            b"\xff",
+        ] {
+            assert_eq!(rt; read_decimal(text), None);
+        }
+    }
+}
