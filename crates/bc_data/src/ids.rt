@@ -1,6 +1,6 @@
 // At most four numbers.
 
-ghost use Rattle.std.specs.Prelude.{◌≡◌, ℕ, ◌+◌, ◌<◌, ◌≤◌, [], ◌∷◌, ◌++◌, length, slice_get, option_copied};
+ghost use Rattle.std.specs.Prelude.{◌≡◌, ℕ, ◌+◌, ◌<◌, ◌≤◌, ◌==◌, [], ◌∷◌, ◌++◌, length, slice_get, option_copied};
 
 use std::marker::Model;
 
@@ -41,8 +41,71 @@ impl Ids {
 
     /// How many there are.
     pub fn len(&self) -> usize
-        ensures { result ≡ length self.now }
+        ensures value { result ≡ length self.now }
+        ensures few { length self.now ≤ 4 }
     {
         self.len
+    }
+
+    /// Whether there is none.
+    pub fn is_empty(&self) -> bool
+        ensures { result ≡ (length self.now == 0) }
+    {
+        self.len == 0
+    }
+
+    /// The numbers as a slice.
+    pub fn as_slice(&self) -> &[u32]
+        ensures value { result.now ≡ self.now }
+        ensures few { length self.now ≤ 4 }
+    {
+        &self.ids[..self.len]
+    }
+
+    /// The number at a place, if there is one.
+    pub fn get(&self, index: usize) -> Option<u32>
+        ensures { result ≡ slice_get self.now index }
+    {
+        if index < self.len {
+            Some(self.ids[index])
+        } else {
+            None
+        }
+    }
+
+    /// Appends a number. There must be room for it.
+    pub fn push(&mut self, id: u32)
+        requires { length self.old < 4 }
+        ensures { self.new ≡ self.old ++ id ∷ [] }
+    {
+        self.ids[self.len] = id;
+        self.len += 1;
+    }
+
+    /// The numbers of a slice, which are at most four.
+    pub fn from_slice(ids: &[u32]) -> Self
+        requires { length ids.now ≤ 4 }
+        ensures { result ≡ ids.now }
+    {
+        let mut all = Ids::none();
+        for id in ids {
+            all.push(*id);
+        }
+        all
+    }
+}
+
+#[cfg(test)]
+mod tests {
+    use super::*;
+
+    #[test]
+    fn holds_four(rt: HostRuntime) {
+        let mut ids = Ids::from_slice(&[7, 0, 7]);
+        ids.push(2);
+        assert_eq!(rt; ids.as_slice(), [7, 0, 7, 2].as_slice());
+        assert_eq!(rt; ids.get(1), Some(0));
+        assert_eq!(rt; ids.get(4), None);
+        assert!(rt; Ids::none().is_empty());
     }
 }

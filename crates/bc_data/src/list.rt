@@ -1,11 +1,19 @@
 // A vector that contracts see as a list.
 
-ghost use Rattle.std.specs.Prelude.{◌≡◌, ℕ, ◌+◌, ◌<◌, ◌≤◌, ◌==◌, [], ◌∷◌, ◌++◌, length, take, insert, remove, swap, slice_get, slice_set, slice_index_or, option_copied, option_to_list, IfOk, IfErr, IfSome, OnOk, OnErr, if◌then◌else◌};
+ghost use Rattle.std.specs.Prelude.{◌≡◌, ℕ, ◌+◌, ◌-◌, ◌^◌, ◌<◌, ◌≤◌, ◌==◌, [], ◌∷◌, ◌++◌, length, take, insert, remove, swap, swap_remove, slice_get, slice_set, slice_index_or, option_copied, option_to_list, IfOk, IfErr, IfSome, OnOk, OnErr, if◌then◌else◌};
+ghost use Rattle.std.specs.List.{AllZip, list_any};
+ghost use Rattle.std.specs.Slice.Iter.{iter_rest, iter_steps};
+ghost use Rattle.std.specs.Iterator.Runs.{EveryRun, ItemsAre, ItemsMapTo};
+ghost use Rattle.std.specs.Vec.Iter.{into_iter_steps, into_iter_items, into_iter_len};
+ghost use Rattle.std.specs.declared.alloc.Global.{Global as Heap};
+ghost use Rattle.std.specs.Borrow.{Lends, sem};
+ghost use Rattle.bc_data.specs.contracts.list.List.{the_row};
 
 use std::alloc::{AllocError, AllocFailed, Global};
 use std::marker::Model;
-use std::ops::Index;
+use std::ops::{Index, IndexMut};
 use std::slice::Iter;
+use std::vec::IntoIter;
 
 /// A growable list. It has the calls of `Vec` under their names, and contracts see it as its elements.
 #[derive(Debug, Drop)]
@@ -114,6 +122,91 @@ impl<T> List<T> {
         self.items.remove(index)
     }
 
+    /// The first element, if there is one.
+    pub fn first(&self) -> Option<&T>
+        ensures { option_copied result ≡ slice_get self.now 0 }
+    {
+        self.items.as_slice().first()
+    }
+
+    /// The last element, if there is one.
+    pub fn last(&self) -> Option<&T>
+        ensures { option_copied result ≡ slice_get self.now (length self.now - 1) }
+    {
+        self.items.as_slice().last()
+    }
+
+    /// The elements, in order.
+    pub fn iter(&self) -> Iter<'_, T>
+        ensures rest { iter_rest result ≡ self.now }
+        ensures runs { EveryRun (iter_steps {A = T}) (λ p. ItemsMapTo p (λ x. x.now) (iter_rest p.from)) }
+    {
+        self.items.as_slice().iter()
+    }
+
+    /// Whether an element equals this one.
+    pub fn contains(&self, value: &T) -> bool
+    where
+        T: PartialEq,
+        ensures { result ≡ list_any (λ x. T.eq x value.now) self.now }
+    {
+        self.items.as_slice().contains(value)
+    }
+
+    /// Puts an element at a place; those from there on move down. On `Err` the list is as it was.
+    pub fn insert(&mut self, index: usize, value: T) -> Result<(), AllocFailed<T>>
+        requires { index ≤ length self.old }
+        ensures ok { OnOk result (self.new ≡ insert self.old index value) }
+        ensures err { OnErr result (self.new ≡ self.old) }
+        ensures value_returned { IfErr result (λ failed. failed.value ≡ value) }
+    {
+        self.items.insert(index, value)
+    }
+
+    /// Takes the element at a place out and puts the last in its place.
+    pub fn swap_remove(&mut self, index: usize) -> T
+        requires { index < length self.old }
+        ensures value { result ≡ slice_index_or self.old index result }
+        ensures rest { self.new ≡ swap_remove self.old index result }
+    {
+        self.items.swap_remove(index)
+    }
+
+    /// Exchanges the elements at two places.
+    pub fn swap(&mut self, first: usize, second: usize)
+        requires first_in_bounds { first < length self.old }
+        requires second_in_bounds { second < length self.old }
+        ensures { self.new ≡ swap self.old first second }
+    {
+        self.items.swap(first, second);
+    }
+
+    /// Keeps only this many of the first elements.
+    pub fn truncate(&mut self, len: usize)
+    where
+        T: Drop,
+        ensures { self.new ≡ take len self.old }
+    {
+        self.items.truncate(len);
+    }
+
+    /// Takes every element out.
+    pub fn clear(&mut self)
+    where
+        T: Drop,
+        ensures { self.new ≡ [] }
+    {
+        self.items.clear();
+    }
+
+    /// Moves the elements of another list to the end of this one. On `Err` both are as they were.
+    pub fn append(&mut self, other: &mut List<T>) -> Result<(), AllocError>
+        ensures ok { OnOk result ((self.new ≡ self.old ++ other.old) × (other.new ≡ [])) }
+        ensures err { OnErr result ((self.new ≡ self.old) × (other.new ≡ other.old)) }
+    {
+        self.items.append(&mut other.items)
+    }
+
     /// Makes room for this many more elements. The elements are as they were.
     pub fn reserve(&mut self, additional: usize) -> Result<(), AllocError>
         ensures { self.new ≡ self.old }
@@ -138,5 +231,130 @@ impl<T: Copy> List<T> {
         ensures err { OnErr result (self.new ≡ self.old) }
     {
         self.items.extend_from_slice(other)
+    }
+}
+
+impl<T: Clone> List<T> {
+    /// A list equal to this one, where a clone of an element equals it, as for numbers and for texts.
+    pub fn copy(&self, alloc: Global) -> Result<Self, AllocError>
+        requires { (x y : T) → T.is_clone x y → y ≡ x }
+        ensures { IfOk result (λ l. l ≡ self.now) }
+    {
+        Ok(List {
+            items: Vec::from_clones(alloc, self.items.as_slice())?,
+        })
+    }
+}
+
+impl<T: Clone> Clone for List<T> {
+    ghost is_clone = { AllZip T.is_clone };
+
+    fn clone(&self) -> Result<Self, AllocError> {
+        Ok(List {
+            items: self.items.clone()?,
+        })
+    }
+}
+
+impl<T> Index<usize> for List<T> {
+    type Output = T;
+
+    ghost can_index = { λ l i. i < length l };
+
+    ghost index_gives = { λ l i x. x ≡ slice_index_or l i x };
+
+    fn index(&self, index: usize) -> &T
+        requires { index < length self.now }
+        ensures { result.now ≡ slice_index_or self.now index result.now }
+    {
+        &self.items.as_slice()[index]
+    }
+}
+
+impl<T> IndexMut<usize> for List<T> {
+    fn index_mut(&mut self, index: usize) -> &mut T
+        requires { index < length self.old }
+        ensures* writes_back { sem 𝓛 (Lends (the_row T.row) T.row self.entry result (slice_set self.old index)) }
+        ensures value { result.now ≡ slice_index_or self.old index result.now }
+    {
+        &mut self.items[index]
+    }
+}
+
+impl<T: Drop> IntoIterator for List<T> {
+    type Item = T;
+
+    type IntoIter = IntoIter<T, Global>;
+
+    ghost into_iter_gives = { λ l r. (into_iter_items r ≡ l) × (into_iter_len r ≡ length l) × (into_iter_len r < 2 ^ 64) × EveryRun (into_iter_steps {X = T} {Z = Heap}) (λ p. ItemsAre p (into_iter_items p.from)) };
+
+    fn into_iter(self) -> IntoIter<T, Global> {
+        self.into_vec().into_iter()
+    }
+}
+
+impl<'a, T> IntoIterator for &'a List<T> {
+    type Item = &'a T;
+
+    type IntoIter = Iter<'a, T>;
+
+    ghost into_iter_gives = { λ l r. (iter_rest r ≡ l.now) × (length (iter_rest r) < 2 ^ 64) × EveryRun (iter_steps {A = T}) (λ p. ItemsMapTo p (λ x. x.now) (iter_rest p.from)) };
+
+    fn into_iter(self) -> Iter<'a, T> {
+        self.items.as_slice().iter()
+    }
+}
+
+#[cfg(test)]
+mod tests {
+    use super::*;
+    use std::test::Fail;
+
+    #[test]
+    fn grows_and_shrinks(rt: HostRuntime) -> Result<(), Fail> {
+        let alloc = rt.alloc();
+        let mut list = List::with_capacity(alloc, 2)?;
+        list.push(3)?;
+        list.push(5)?;
+        list.reserve(4)?;
+        list.insert(1, 4)?;
+        list.extend_from_slice(&[6, 7])?;
+        let mut more = List::from_slice(alloc, &[8, 9])?;
+        list.append(&mut more)?;
+        assert_eq!(rt; list.as_slice(), [3, 4, 5, 6, 7, 8, 9].as_slice());
+        assert!(rt; more.is_empty());
+        list[5] = 1;
+        list.swap(0, 6);
+        assert_eq!(rt; list.remove(1), 4);
+        assert_eq!(rt; list.swap_remove(1), 5);
+        list.truncate(4);
+        assert_eq!(rt; list.as_slice(), [9, 3, 6, 7].as_slice());
+        assert_eq!(rt; list.first(), Some(&9));
+        assert_eq!(rt; list.last(), Some(&7));
+        assert!(rt; list.contains(&6));
+        assert!(rt; !list.contains(&8));
+        list.clear();
+        assert_eq!(rt; list.len(), 0);
+        Ok(())
+    }
+
+    #[test]
+    fn copies_numbers_and_texts(rt: HostRuntime) -> Result<(), Fail> {
+        let alloc = rt.alloc();
+        let mut texts = List::new(alloc);
+        texts.push(Bytes::from_slice(alloc, b"one")?)?;
+        texts.push(Bytes::from_slice(alloc, b"two")?.copy(alloc)?)?;
+        let copy = texts.copy(alloc)?;
+        let clone = copy.clone()?;
+        texts.clear();
+        let mut joined = Bytes::new(alloc);
+        for text in &copy {
+            joined.extend_from_slice(text.as_slice())?;
+        }
+        for text in clone {
+            joined.extend_from_slice(text.as_slice())?;
+        }
+        assert_eq!(rt; joined.as_slice(), b"onetwoonetwo".as_slice());
+        Ok(())
     }
 }

@@ -41,7 +41,7 @@ pub enum Kind {
 }
 
 /// An object's kind, its fields or elements, its flags as a mask, and its tag instances in the order of binding.
-#[derive(Debug, Drop)]
+#[derive(Clone, Debug, Drop)]
 pub struct Body {
     pub kind: Kind,
     pub cells: List<Value>,
@@ -61,7 +61,7 @@ pub struct Invocation {
 pub type History = List<Invocation>;
 
 /// A new body for an object of the store.
-#[derive(Debug, Drop)]
+#[derive(Clone, Debug, Drop)]
 pub struct Written {
     pub id: u32,
     pub body: Body,
@@ -69,7 +69,7 @@ pub struct Written {
 
 /// What an invocation changes: bodies of the store (ascending by number), new bodies, the types of new tag
 /// instances, and the text that it prints.
-#[derive(Debug, Drop)]
+#[derive(Clone, Debug, Drop)]
 pub struct Changes {
     pub bodies: List<Written>,
     pub made: List<Body>,
@@ -103,14 +103,14 @@ pub struct Fault {
 }
 
 /// How an invocation ends.
-#[derive(Debug, Drop)]
+#[derive(Clone, Debug, Drop)]
 pub enum Ran {
     Commit(Changes),
     Faulted(Fault),
 }
 
 /// How an invocation ends, and the objects of the store that it touched, in order.
-#[derive(Debug, Drop)]
+#[derive(Clone, Debug, Drop)]
 pub struct Outcome {
     pub ran: Ran,
     pub touched: List<u32>,
@@ -136,5 +136,102 @@ impl Body {
             flags: self.flags,
             tags: List::from_slice(alloc, self.tags.as_slice())?,
         })
+    }
+}
+
+impl Written {
+    /// An equal one.
+    pub fn copy(&self, alloc: Global) -> Result<Self, AllocError>
+        ensures { IfOk result (λ written. written ≡ self.now) }
+    {
+        Ok(Written {
+            id: self.id,
+            body: self.body.copy(alloc)?,
+        })
+    }
+}
+
+impl Changes {
+    /// Changes equal to these.
+    pub fn copy(&self, alloc: Global) -> Result<Self, AllocError>
+        ensures { IfOk result (λ changes. changes ≡ self.now) }
+    {
+        Ok(Changes {
+            bodies: self.bodies.copy(alloc)?,
+            made: self.made.copy(alloc)?,
+            tags: self.tags.copy(alloc)?,
+            text: self.text.copy(alloc)?,
+        })
+    }
+}
+
+impl Ran {
+    /// An equal one.
+    pub fn copy(&self, alloc: Global) -> Result<Self, AllocError>
+        ensures { IfOk result (λ ran. ran ≡ self.now) }
+    {
+        match self {
+            Ran::Commit(changes) => Ok(Ran::Commit(changes.copy(alloc)?)),
+            Ran::Faulted(fault) => Ok(Ran::Faulted(*fault)),
+        }
+    }
+}
+
+impl Outcome {
+    /// An equal one.
+    pub fn copy(&self, alloc: Global) -> Result<Self, AllocError>
+        ensures { IfOk result (λ outcome. outcome ≡ self.now) }
+    {
+        Ok(Outcome {
+            ran: self.ran.copy(alloc)?,
+            touched: self.touched.copy(alloc)?,
+        })
+    }
+}
+
+#[cfg(test)]
+mod tests {
+    use super::*;
+    use std::test::Fail;
+
+    #[test]
+    fn copies_an_outcome(rt: HostRuntime) -> Result<(), Fail> {
+        let alloc = rt.alloc();
+        let body = Body {
+            kind: Kind::Ints,
+            cells: List::from_slice(alloc, &[Value::Int(-4), Value::New(0)])?,
+            flags: 5,
+            tags: List::from_slice(alloc, &[TagRef::New(0)])?,
+        };
+        let mut made = List::new(alloc);
+        made.push(body.copy(alloc)?)?;
+        let mut bodies = List::new(alloc);
+        bodies.push(Written { id: 2, body }.copy(alloc)?)?;
+        let changes = Changes {
+            bodies,
+            made,
+            tags: List::from_slice(alloc, &[3])?,
+            text: Bytes::from_slice(alloc, b"done")?,
+        };
+        let ran = Ran::Commit(changes.copy(alloc)?).copy(alloc)?;
+        let touched = List::from_slice(alloc, &[2])?;
+        let copy = Outcome { ran, touched }.copy(alloc)?;
+        assert_eq!(rt; copy.touched.as_slice(), [2].as_slice());
+        let Ran::Commit(copied) = copy.ran else {
+            assert!(rt; false);
+            return Ok(());
+        };
+        assert_eq!(rt; copied.text.as_slice(), b"done".as_slice());
+        assert_eq!(rt; copied.bodies.len(), 1);
+        assert_eq!(rt; copied.made.len(), 1);
+        let Some(written) = copied.bodies.first() else {
+            assert!(rt; false);
+            return Ok(());
+        };
+        assert_eq!(rt;
+            written.body.cells.as_slice(),
+            [Value::Int(-4), Value::New(0)].as_slice()
+        );
+        Ok(())
     }
 }

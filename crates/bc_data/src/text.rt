@@ -13,3 +13,68 @@ pub fn decimal(alloc: Global, value: i64) -> Result<Bytes, AllocError>
     let text = format!(in alloc; "{value}")?;
     Ok(Bytes::from_vec(text.into_bytes()))
 }
+
+/// The decimal text of a natural number.
+pub fn natural(alloc: Global, value: u64) -> Result<Bytes, AllocError>
+    ensures { IfOk result (λ text. text ≡ decimal value) }
+{
+    let text = format!(in alloc; "{value}")?;
+    Ok(Bytes::from_vec(text.into_bytes()))
+}
+
+/// The number whose decimal text this is: digits with no sign, and no zero before others. `None` where the
+/// text is that of no number below 2 ^ 64.
+pub fn read_decimal(text: &[u8]) -> Option<u64>
+    ensures some { IfSome result (λ n. text.now ≡ decimal n) }
+    ensures none { IfNone result ((n : ℕ) → n < 2 ^ 64 → text.now ≡ decimal n → ⊥) }
+{
+    // The first byte tells a sign and a leading zero, which `parse` takes.
+    if text.is_empty() || text[0] == b'+' || (text[0] == b'0' && text.len() > 1) {
+        return None;
+    }
+    let Ok(text) = std::str::from_utf8(text) else {
+        return None;
+    };
+    match text.parse::<u64>() {
+        Ok(value) => Some(value),
+        Err(_) => None,
+    }
+}
+
+#[cfg(test)]
+mod tests {
+    use super::*;
+    use std::test::Fail;
+
+    #[test]
+    fn writes_decimal_texts(rt: HostRuntime) -> Result<(), Fail> {
+        let alloc = rt.alloc();
+        assert_eq!(rt; decimal(alloc, -120)?.as_slice(), b"-120".as_slice());
+        assert_eq!(rt; decimal(alloc, 0)?.as_slice(), b"0".as_slice());
+        assert_eq!(rt;
+            natural(alloc, u64::MAX)?.as_slice(),
+            b"18446744073709551615".as_slice()
+        );
+        Ok(())
+    }
+
+    #[test]
+    fn reads_decimal_texts(rt: HostRuntime) {
+        assert_eq!(rt; read_decimal(b"0"), Some(0));
+        assert_eq!(rt; read_decimal(b"1203"), Some(1203));
+        assert_eq!(rt; read_decimal(b"18446744073709551615"), Some(u64::MAX));
+        assert_eq!(rt; read_decimal(b"18446744073709551616"), None);
+        for text in [
+            b"".as_slice(),
+            b"00",
+            b"07",
+            b"+7",
+            b"-7",
+            b"7 ",
+            b"7a",
+            b"\xff",
+        ] {
+            assert_eq!(rt; read_decimal(text), None);
+        }
+    }
+}
