@@ -1,5 +1,5 @@
 -- The files of a shelf, and the names that it was asked for.
-use Rattle.std.specs.Prelude.{ℕ, List, [], ◌∷◌, ◌++◌, find, bytes_eq, Option, option_map, Result, Ok, Err}
+use Rattle.std.specs.Prelude.{ℕ, List, [], ◌∷◌, ◌++◌, find, bytes_eq, Option, Some, option_map, Result, Ok, Err}
 use Rattle.bc_base.specs.declared.shelf.NamedFile.{NamedFile}
 use Rattle.bc_base.specs.declared.shelf.ShelfFault.{ShelfFault}
 use Rattle.bc_base.specs.declared.shelf.ShelfFault.TheVariants.{TooLong, Failed, Memory}
@@ -23,3 +23,7 @@ told_after told name (Ok content) = with_asked told name
 told_after told name (Err TooLong) = with_asked told name
 told_after told name (Err Failed) = with_asked told name
 told_after told name (Err Memory) = told
+
+-- what a shelf of these files tells that was asked for these names
+abbrev pub told_of : List NamedFile → List (List ℕ) → Option Told
+told_of files asked = let t : Told = record { files = files; asked = asked } in Some t
