@@ -3,6 +3,7 @@
 
 pub mod calls;
 pub mod fault;
+pub mod file_shelf;
 pub mod shelf;
 pub mod sink;
 pub mod source;
