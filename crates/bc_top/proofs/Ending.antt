@@ -19,16 +19,12 @@ use Rattle.bc_mean.specs.Outcome.{outcome, place_of, refused_room}
 use Rattle.bc_mean.specs.Changes.{fault_of_room, apply_changes}
 use Rattle.bc_mean.specs.Serial.{Course, Failed, course_at_start, serial_step, serial_steps, step_pending, step_ran, try_commit, committed, stopped, is_crowded, IsQuiet, IsFault}
 use Rattle.bc_top.specs.declared.run.Failure.{Failure}
-use Rattle.bc_top.specs.Run.{CanRun, AllCanRun, text_of, exit_of, on_startup, has_room, failure_of, failures_in, IsRunOf}
-use Rattle.bc_top.proofs.Turns.{store_at, turns_from, queue_at, course_at, IsUnderWay}
+use Rattle.bc_top.specs.Run.{CanRun, AllCanRun, text_of, exit_of, on_startup, has_room, full_failure, turns_from, stop_of, failed_of, failure_of, failures_in, IsRunOf}
+use Rattle.bc_top.proofs.Turns.{store_at, queue_at, course_at, IsUnderWay}
 use Rattle.bc_top.proofs.Enabling.{can_run_at, all_enabled_at}
 use Rattle.bc_top.proofs.Performing.{changes_of, commits, performs}
 use Rattle.bc_top.proofs.Turning.{has, has-append, inside, AllBelow, range_below, below-append}
 use Rattle.bc_top.proofs.Going.{steps_more}
-
--- the fault of a task whose text has no room
-abbrev pub full_failure : List Task → ℕ → Failure
-full_failure tasks k = record { v = on_startup k; fault = record { kind = fault.Output; at = place_of (slice_get tasks k) } }
 
 no_room_of : (out : List ℕ) (exit : Option Bool) (text : List ℕ) → 16777216 < length out + length text → fault_of_room (store_at true out) (changes_of true out exit text) ≡ Some fault.Output
 no_room_of out exit text h = rw (lt-ltb 16777216 (length out + length text) h) refl
@@ -43,10 +39,6 @@ faults_full P out k t e h lt =
 -- at the limit of commits these are pending and those have failed
 abbrev waiting : List ℕ → List Invocation → List ℕ → List Failed → Course
 waiting out history qs failures = record { store = store_at true out; history = history; pending = map on_startup qs; failures = failures; ended = None }
-
-abbrev pub stop_of : Option ℕ → Stop
-stop_of None = stop.End
-stop_of (Some k) = stop.Spent (on_startup k)
 
 record Ends (P : Parts) (limit : ℕ) (from : Course) (out : List ℕ) (committed_so_far : List Invocation) (s : Stop) : Type 0 where
   course : Course
@@ -154,10 +146,6 @@ steps_add : (P : Parts) (limit m k : ℕ) (r : Course) → serial_steps P limit 
 steps_add P limit zero k r = ap (λ n. serial_steps P limit n r) (zero-add k)
 steps_add P limit (suc m) k r = ap (λ n. serial_steps P limit n r) (let e : suc m + k ≡ suc (m + k) = omega arith in e) ∙ steps_add P limit m k (serial_step P limit r)
 
-abbrev pub failed_of : List Task → Option ℕ → List Failure
-failed_of tasks None = map (full_failure tasks) (range_with_len 0 (length tasks))
-failed_of tasks (Some k) = []
-
 -- At the limit the first task in turn that has room would commit; where none has, every task faults.
 pub ends_at_limit : (P : Parts) (limit turn : ℕ) (history : List Invocation) (out : List ℕ) (found : Option ℕ) → AllCanRun P.tasks → turn ≤ length P.tasks → IsUnderWay P limit true turn history out limit →
     find (has_room P.tasks (length out)) (turns_from (length P.tasks) turn) ≡ found → IsRunOf P limit history (stop_of found) out (failed_of P.tasks found)
@@ -186,3 +174,18 @@ ends_at_limit P limit turn history out found h le u is =
         let full = all_fault P out 0 (length P.tasks) h (omega arith) (λ k lt. find_none (has_room P.tasks (length out)) (turns_from (length P.tasks) turn) k found (has_turn (length P.tasks) turn k le lt)) in
         (subst (λ vs. All (λ v. IsFault (outcome P S v).ran) vs) (sym all) (All-from_recursion _ _ full.0),
          sym full.1 ∙ sym (ap (filter_map (λ v. failure_of v (outcome P S v).ran)) all))
+
+-- the flag is cleared, or there are no tasks
+pub ends_over : (P : Parts) (limit turn count : ℕ) (set : Bool) (history : List Invocation) (out : List ℕ) → AllCanRun P.tasks → IsUnderWay P limit set turn history out count → set ≡ false ⊎ length P.tasks ≡ 0 →
+    IsRunOf P limit history stop.End out []
+ends_over P limit turn count set history out h u over =
+    ends_idle P limit turn count set history out u (⊎_elim (λ e. ap (λ f. queue_at (length P.tasks) f turn) e) no_queue over)
+        (⊎_elim (λ e. all_enabled_at P set out h ∙ ap (λ f. cond f (map on_startup (range_with_len 0 (length P.tasks))) []) e)
+            (λ e. all_enabled_at P set out h ∙ ap (λ n. cond set (map on_startup (range_with_len 0 n)) []) e ∙ nothing set) over)
+  where
+    nothing : (f : Bool) → cond f (map on_startup (range_with_len 0 0)) [] ≡ []
+    nothing true = refl
+    nothing false = refl
+
+    no_queue : length P.tasks ≡ 0 → queue_at (length P.tasks) set turn ≡ []
+    no_queue e = ap (λ n. queue_at n set turn) e ∙ ap (λ k. queue_at 0 set k) (u.no_turn e) ∙ nothing set

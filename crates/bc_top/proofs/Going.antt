@@ -16,11 +16,11 @@ use Rattle.bc_mean.specs.Enabled.{all_enabled}
 use Rattle.bc_mean.specs.Work.{choose}
 use Rattle.bc_mean.specs.Outcome.{outcome}
 use Rattle.bc_mean.specs.Serial.{Course, course_at_start, serial_step, serial_steps, step_pending, step_ran, try_commit, committed, stopped, is_crowded, after_commit, after_ran, if_room, replay, replay_from, IsQuiet, IsFault}
-use Rattle.bc_top.specs.Run.{CanRun, AllCanRun, text_of, exit_of, on_startup, IsRunOf}
-use Rattle.bc_top.proofs.Turns.{store_at, turns_from, queue_at, course_at, IsUnderWay}
+use Rattle.bc_top.specs.Run.{CanRun, AllCanRun, text_of, exit_of, on_startup, turns_from, next_turn}
+use Rattle.bc_top.proofs.Turns.{store_at, queue_at, course_at, IsUnderWay}
 use Rattle.bc_top.proofs.Enabling.{can_run_at, enabled_startup, all_enabled_at}
 use Rattle.bc_top.proofs.Performing.{changes_of, commits, applied}
-use Rattle.bc_top.proofs.Turning.{behind, next_turn, pending_turn, turns_next, turns_here}
+use Rattle.bc_top.proofs.Turning.{behind, pending_turn, turns_next, turns_here}
 
 pub not_crowded : (P : Parts) (f : Bool) (out : List ℕ) → AllCanRun P.tasks → length P.tasks ≤ 256 → is_crowded P (store_at f out) ≡ false
 not_crowded P true out h few =

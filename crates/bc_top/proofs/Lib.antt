@@ -4,3 +4,5 @@ pub mod Performing
 pub mod Turning
 pub mod Going
 pub mod Ending
+pub mod Rooms
+pub mod Serving

@@ -10,8 +10,8 @@ use Rattle.bc_data.specs.declared.program.Task.{Task}
 use Rattle.bc_data.specs.declared.run.Invocation.{Invocation}
 use Rattle.bc_mean.specs.Enabled.{is_enabled, all_enabled}
 use Rattle.bc_mean.specs.Serial.{listed, has_failure, pending_after}
-use Rattle.bc_top.specs.Run.{AllCanRun, on_startup}
-use Rattle.bc_top.proofs.Turns.{store_at, turns_from}
+use Rattle.bc_top.specs.Run.{AllCanRun, on_startup, turns_from, next_turn}
+use Rattle.bc_top.proofs.Turns.{store_at}
 use Rattle.bc_top.proofs.Enabling.{can_run_at, enabled_startup, all_enabled_at}
 
 -- a number is among these
@@ -141,10 +141,6 @@ pending_turn P f out k l h e =
     joined : (f : Bool) → cond f (map on_startup (behind k l)) [] ++ filter (is_new (cond f (map on_startup (behind k l)) [])) (cond f (map on_startup (range_with_len 0 (k + suc l))) []) ≡ cond f (map on_startup (behind k l ++ k ∷ [])) []
     joined true = ap (λ xs. map on_startup (behind k l) ++ xs) (only_one k l) ∙ sym (map-append on_startup (behind k l) (k ∷ []))
     joined false = refl
-
--- whose turn is next
-abbrev pub next_turn : ℕ → ℕ → ℕ
-next_turn n turn = cond (nat_lt (turn + 1) n) (turn + 1) 0
 
 pub turns_next : (k l : ℕ) → behind k l ++ k ∷ [] ≡ turns_from (k + suc l) (next_turn (k + suc l) k)
 turns_next k zero =

@@ -6,7 +6,7 @@ use Rattle.bc_data.specs.declared.run.Invocation.{Invocation}
 use Rattle.bc_mean.specs.declared.plain.Plain.{Plain}
 use Rattle.bc_mean.specs.Store.{startup_object, input_array}
 use Rattle.bc_mean.specs.Serial.{Course, course_at_start, serial_steps, replay}
-use Rattle.bc_top.specs.Run.{on_startup}
+use Rattle.bc_top.specs.Run.{on_startup, turns_from}
 
 abbrev pub flag_mask : Bool → ℕ
 flag_mask true = 1
@@ -15,10 +15,6 @@ flag_mask false = 0
 -- the store where `initialstate` is set or not, and what was printed
 abbrev pub store_at : Bool → List ℕ → Plain
 store_at f out = record { bodies = record startup_object { flags = flag_mask f } ∷ input_array [] ∷ []; tags = []; output = out }
-
--- the tasks from this one's turn on, round to the one before it
-abbrev pub turns_from : ℕ → ℕ → List ℕ
-turns_from n turn = range_with_len turn (n - turn) ++ range_with_len 0 turn
 
 abbrev pub queue_at : ℕ → Bool → ℕ → List Invocation
 queue_at n f turn = cond f (map on_startup (turns_from n turn)) []
