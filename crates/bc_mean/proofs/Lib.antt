@@ -1,0 +1,2 @@
+pub mod ExampleLimits
+pub mod ExampleRuns
