@@ -16,6 +16,7 @@ use Rattle.bc_data.specs.declared.program.Part.{Part}
 use Rattle.bc_data.specs.declared.program.Part.TheVariants as part
 use Rattle.bc_data.specs.declared.program.Change.TheVariants as change
 use Rattle.bc_data.specs.declared.run.Place.{Place}
+use Rattle.bc_data.specs.declared.run.Value.TheVariants as value
 use Rattle.bc_data.specs.declared.run.TagRef.{TagRef}
 use Rattle.bc_data.specs.declared.run.TagRef.TheVariants as tag
 use Rattle.bc_data.specs.declared.run.Kind.TheVariants as kind
@@ -30,11 +31,11 @@ use Rattle.bc_data.specs.declared.run.Ran.TheVariants as ran
 use Rattle.bc_data.specs.declared.run.Stop.{Stop}
 use Rattle.bc_data.specs.declared.run.Stop.TheVariants as stop
 use Rattle.bc_mean.specs.declared.plain.Plain.{Plain}
-use Rattle.bc_mean.specs.Store.{cells_in, input_array, start_store, startup_object}
+use Rattle.bc_mean.specs.Store.{Fits, cells_in, input_array, start_store, startup_object}
 use Rattle.bc_mean.specs.Enabled.{all_enabled, is_enabled}
-use Rattle.bc_mean.specs.Changes.{fault_of_room}
+use Rattle.bc_mean.specs.Changes.{apply_changes, changed_objects, fault_of_room, same_body}
 use Rattle.bc_mean.specs.Outcome.{outcome}
-use Rattle.bc_mean.specs.Serial.{Course, Failed, IsQuiet, IsSerialRun, replay, serial_step}
+use Rattle.bc_mean.specs.Serial.{Course, Failed, IsQuiet, IsSerialRun, committed, pending_after, replay, serial_step}
 
 -- a vector of these elements
 abbrev pub vec_of : {X : Type 0} → Global → (xs : List X) → length xs < 2 ^ 63 → Vec X
@@ -308,6 +309,84 @@ pub record OutputExamples (alloc : Global) (output text : List ℕ) (history : L
         failures = record { v = on_startup 0; fault = record { kind = fault.Output; at = here }; touched = 0 ∷ [] } ∷ [];
       }
 
+abbrev pub failure : Invocation → List ℕ → Failed
+failure v touched = record { v = v; fault = record { kind = fault.Assert; at = here }; touched = touched }
+
+abbrev pub pair : Invocation
+pair = task_on (2 ∷ 3 ∷ []) []
+
+abbrev pub other_pair : Invocation
+other_pair = task_on (3 ∷ 2 ∷ []) []
+
+-- object 2 of the two alike with its flag cleared
+abbrev pub one_cleared : Plain
+one_cleared = store_of (record { kind = kind.Class 1; cells = []; flags = 0; tags = [] } ∷ flagged 1 [] ∷ []) []
+
+-- one pair runs, and the other failed twice: once it touched both objects, once object 3 alone
+abbrev pub course_with_failures : Course
+course_with_failures = record {
+  store = two_alike;
+  history = [];
+  pending = pair ∷ [];
+  failures = failure other_pair (3 ∷ 2 ∷ []) ∷ failure other_pair (3 ∷ []) ∷ [];
+  ended = None;
+}
+
+-- Pending invocations keep their order before the others. Running and failed ones are not pending.
+pub record PendingExamples (alloc : Global) : Type 0 where
+  pub ascending : pending_after (pairs alloc) two_alike [] [] [] ≡ pair ∷ other_pair ∷ []
+  pub kept_first : pending_after (pairs alloc) two_alike [] [] (other_pair ∷ []) ≡ other_pair ∷ pair ∷ []
+  pub not_running : pending_after (pairs alloc) two_alike [] (pair ∷ []) [] ≡ other_pair ∷ []
+  pub not_failed : pending_after (pairs alloc) two_alike (failure pair (2 ∷ []) ∷ []) [] [] ≡ other_pair ∷ []
+  pub no_longer_enabled : pending_after (pairs alloc) one_cleared [] [] (other_pair ∷ pair ∷ []) ≡ []
+  pub one_failure_dropped :
+      (committed (pairs alloc) one_cleared pair [] course_with_failures).failures ≡ failure other_pair (3 ∷ []) ∷ []
+
+-- two new objects that name each other, one with a new tag instance, and the startup object that names one of them
+abbrev pub linked : Changes
+linked = record {
+  bodies = record { id = 0; body = record { kind = kind.Class 0; cells = value.New 1 ∷ []; flags = 0; tags = [] } } ∷ [];
+  made =
+      record { kind = kind.Class 1; cells = value.New 1 ∷ value.Old 1 ∷ []; flags = 1; tags = tag.Old 0 ∷ tag.New 0 ∷ [] }
+      ∷ record { kind = kind.Objects 1; cells = value.New 0 ∷ value.Null ∷ []; flags = 0; tags = [] }
+      ∷ [];
+  tags = 1 ∷ [];
+  text = codes "x";
+}
+
+abbrev pub after_linked : Plain
+after_linked = record {
+  bodies =
+      record { kind = kind.Class 0; cells = value.Old 3 ∷ []; flags = 0; tags = [] }
+      ∷ input_array []
+      ∷ record { kind = kind.Class 1; cells = value.Old 3 ∷ value.Old 1 ∷ []; flags = 1; tags = tag.Old 0 ∷ tag.Old 1 ∷ [] }
+      ∷ record { kind = kind.Objects 1; cells = value.Old 2 ∷ value.Null ∷ []; flags = 0; tags = [] }
+      ∷ [];
+  tags = 0 ∷ 1 ∷ [];
+  output = codes "wx";
+}
+
+-- New objects and instances get the next numbers. The order of an object's tags is a part of it.
+pub record ChangeExamples : Type 0 where
+  pub applied : apply_changes (record (start_store []) { tags = 0 ∷ []; output = codes "w" }) linked ≡ after_linked
+  pub order_of_tags : same_body (flagged 1 (tag.Old 0 ∷ tag.Old 1 ∷ [])) (flagged 1 (tag.Old 1 ∷ tag.Old 0 ∷ [])) ≡ false
+  pub changed : changed_objects two_alike one_cleared ≡ 2 ∷ []
+
+-- a store of the objects at the start and one more of class 1, with one instance of type 0
+abbrev pub with_object : Body → Plain
+with_object b = store_of (b ∷ []) (0 ∷ [])
+
+-- The store at the start fits each program. An object with a flag or an instance too many, or one instance twice, does not.
+pub record FitExamples (alloc : Global) : Type 0 where
+  pub start : (tasks : List Task) (input : List ℕ) → length input ≤ 65536 → Fits (program alloc tasks) (start_store input)
+  pub tagged : Fits (joins alloc) (with_object (flagged 1 (tag.Old 0 ∷ [])))
+  pub unknown_flag : Fits (joins alloc) (with_object (record { kind = kind.Class 1; cells = []; flags = 2; tags = [] })) → ⊥
+  pub unknown_instance : Fits (joins alloc) (with_object (flagged 1 (tag.Old 1 ∷ []))) → ⊥
+  pub one_instance_twice : Fits (joins alloc) (with_object (flagged 1 (tag.Old 0 ∷ tag.Old 0 ∷ []))) → ⊥
+  pub unknown_class : Fits (joins alloc) (with_object (flagged 3 [])) → ⊥
+  pub cell_too_many : Fits (joins alloc) (with_object (record { kind = kind.Class 1; cells = value.Null ∷ []; flags = 1; tags = [] })) → ⊥
+  pub wrong_element : Fits (joins alloc) (with_object (record { kind = kind.Objects 1; cells = value.Old 1 ∷ []; flags = 0; tags = [] })) → ⊥
+
 pub record Examples : Type 0 where
   pub runs : (alloc : Global) → RunExamples alloc
   pub enabled : (alloc : Global) → EnabledExamples alloc
@@ -315,3 +394,6 @@ pub record Examples : Type 0 where
   pub text : (alloc : Global) (at : Place) (first second : List ℕ) → TextExamples alloc at first second
   pub exits : (alloc : Global) → ExitExamples alloc
   pub output : (alloc : Global) (output text : List ℕ) (history : List Invocation) → OutputExamples alloc output text history
+  pub pending : (alloc : Global) → PendingExamples alloc
+  pub changes : ChangeExamples
+  pub fits : (alloc : Global) → FitExamples alloc
