@@ -1,10 +1,10 @@
 -- The worked examples of whole runs and of enabled invocations hold, by computation.
 use Rattle.std.proofs.Common.{refl, arith, [], ◌∷◌}
 use Rattle.std.specs.Global.{Global}
-use Rattle.std.specs.Prelude.{codes, All}
+use Rattle.std.specs.Prelude.{codes}
 use Rattle.bc_data.specs.declared.run.Stop.TheVariants as stop
 use Rattle.bc_mean.specs.Enabled.{all_enabled}
-use Rattle.bc_mean.specs.Serial.{IsQuiet, course_at_start, serial_steps}
+use Rattle.bc_mean.specs.Serial.{course_at_start, serial_steps}
 use Rattle.bc_mean.specs.Examples.{EnabledExamples, RunExamples, RunsSo, again, empty_program, hello, on_startup, two_tasks}
 
 hello_ends : (alloc : Global) → RunsSo (hello alloc) 100 stop.End (on_startup 0 ∷ []) (codes "hello\n")

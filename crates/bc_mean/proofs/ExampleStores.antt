@@ -1,7 +1,7 @@
 -- The worked examples of pending lists, of changes and of stores that fit hold.
 use Rattle.std.proofs.Common.{refl, ◌≡◌, ℕ, ◌<◌, ◌≤◌, ◌^◌, ◌∙◌, ap, sym, subst, List, [], ◌∷◌, length, arith, lit<, lit≤}
 use Rattle.std.specs.Global.{Global}
-use Rattle.std.specs.Prelude.{All, Option, Some, None, codes, pos, slice_get}
+use Rattle.std.specs.Prelude.{Option, Some, None, codes, pos, slice_get}
 use Rattle.std.proofs.lemmas.List.{length-map}
 use Rattle.std.proofs.lemmas.List.Elements.{All-cons, All-map, All-nil}
 use Rattle.bc_data.specs.Program.{Parts}
@@ -10,7 +10,6 @@ use Rattle.bc_data.specs.declared.program.Shape.TheVariants as shape
 use Rattle.bc_data.specs.declared.program.Task.{Task}
 use Rattle.bc_data.specs.declared.run.Body.{Body}
 use Rattle.bc_data.specs.declared.run.Kind.TheVariants as kind
-use Rattle.bc_data.specs.declared.run.TagRef.{TagRef}
 use Rattle.bc_data.specs.declared.run.TagRef.TheVariants as tag
 use Rattle.bc_data.specs.declared.run.Value.TheVariants as value
 use Rattle.bc_mean.specs.declared.plain.Plain.{Plain}

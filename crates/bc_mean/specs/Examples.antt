@@ -12,7 +12,6 @@ use Rattle.bc_data.specs.declared.program.FlagExpr.{FlagExpr}
 use Rattle.bc_data.specs.declared.program.FlagExpr as flag
 use Rattle.bc_data.specs.declared.program.Stat.{Stat}
 use Rattle.bc_data.specs.declared.program.Stat as stat
-use Rattle.bc_data.specs.declared.program.Part.{Part}
 use Rattle.bc_data.specs.declared.program.Part.TheVariants as part
 use Rattle.bc_data.specs.declared.program.Change.TheVariants as change
 use Rattle.bc_data.specs.declared.run.Place.{Place}
