@@ -5,3 +5,4 @@ pub mod Execute
 pub mod Changes
 pub mod Outcome
 pub mod Serial
+pub mod Examples

@@ -1,4 +1,5 @@
 //! The source meaning: stores, enabled invocations, what an invocation does, and the serial run.
 #![tactic(auto)]
 
+pub mod examples;
 pub mod plain;

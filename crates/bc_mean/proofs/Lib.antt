@@ -1,0 +1,3 @@
+pub mod ExampleLimits
+pub mod ExampleRuns
+pub mod ExampleStores
