@@ -310,6 +310,20 @@ mod tests {
     use super::*;
     use std::test::Fail;
 
+    // A caller's proof follows a write by index, and copies of texts.
+    fn with_seven(
+        alloc: Global,
+        texts: &List<Bytes>,
+        list: &mut List<u32>,
+    ) -> Result<List<Bytes>, AllocError>
+        requires { 0 < length list.old }
+        ensures written { list.new ≡ slice_set list.old 0 7 }
+        ensures copied { IfOk result (λ copy. copy ≡ texts.now) }
+    {
+        list[0] = 7;
+        texts.copy(alloc)
+    }
+
     #[test]
     fn grows_and_shrinks(rt: HostRuntime) -> Result<(), Fail> {
         let alloc = rt.alloc();
@@ -344,7 +358,9 @@ mod tests {
         let mut texts = List::new(alloc);
         texts.push(Bytes::from_slice(alloc, b"one")?)?;
         texts.push(Bytes::from_slice(alloc, b"two")?.copy(alloc)?)?;
-        let copy = texts.copy(alloc)?;
+        let mut numbers = List::from_slice(alloc, &[1, 2])?;
+        let copy = with_seven(alloc, &texts, &mut numbers)?;
+        assert_eq!(rt; numbers.as_slice(), [7, 2].as_slice());
         let clone = copy.clone()?;
         texts.clear();
         let mut joined = Bytes::new(alloc);

@@ -194,44 +194,57 @@ mod tests {
     use super::*;
     use std::test::Fail;
 
-    #[test]
-    fn copies_an_outcome(rt: HostRuntime) -> Result<(), Fail> {
-        let alloc = rt.alloc();
-        let body = Body {
+    fn some_body(alloc: Global) -> Result<Body, AllocError> {
+        Ok(Body {
             kind: Kind::Ints,
             cells: List::from_slice(alloc, &[Value::Int(-4), Value::New(0)])?,
             flags: 5,
             tags: List::from_slice(alloc, &[TagRef::New(0)])?,
-        };
+        })
+    }
+
+    fn some_changes(alloc: Global, body: &Body) -> Result<Changes, Fail> {
         let mut made = List::new(alloc);
         made.push(body.copy(alloc)?)?;
         let mut bodies = List::new(alloc);
-        bodies.push(Written { id: 2, body }.copy(alloc)?)?;
-        let changes = Changes {
+        bodies.push(Written {
+            id: 2,
+            body: body.copy(alloc)?,
+        })?;
+        Ok(Changes {
             bodies,
             made,
             tags: List::from_slice(alloc, &[3])?,
             text: Bytes::from_slice(alloc, b"done")?,
-        };
-        let ran = Ran::Commit(changes.copy(alloc)?).copy(alloc)?;
+        })
+    }
+
+    fn copied(alloc: Global, outcome: &Outcome) -> Result<Outcome, AllocError> {
+        outcome.copy(alloc)
+    }
+
+    #[test]
+    fn copies_an_outcome(rt: HostRuntime) -> Result<(), Fail> {
+        let alloc = rt.alloc();
+        let body = some_body(alloc)?;
+        let ran = Ran::Commit(some_changes(alloc, &body)?);
         let touched = List::from_slice(alloc, &[2])?;
-        let copy = Outcome { ran, touched }.copy(alloc)?;
+        let copy = copied(alloc, &Outcome { ran, touched })?;
         assert_eq!(rt; copy.touched.as_slice(), [2].as_slice());
-        let Ran::Commit(copied) = copy.ran else {
-            assert!(rt; false);
-            return Ok(());
+        let Ran::Commit(changes) = &copy.ran else {
+            return Err("a commit")?;
         };
-        assert_eq!(rt; copied.text.as_slice(), b"done".as_slice());
-        assert_eq!(rt; copied.bodies.len(), 1);
-        assert_eq!(rt; copied.made.len(), 1);
-        let Some(written) = copied.bodies.first() else {
-            assert!(rt; false);
-            return Ok(());
-        };
-        assert_eq!(rt;
-            written.body.cells.as_slice(),
-            [Value::Int(-4), Value::New(0)].as_slice()
-        );
+        assert_eq!(rt; changes.text.as_slice(), b"done".as_slice());
+        assert_eq!(rt; changes.tags.as_slice(), [3].as_slice());
+        for made in &changes.made {
+            assert_eq!(rt;
+                made.cells.as_slice(),
+                [Value::Int(-4), Value::New(0)].as_slice()
+            );
+        }
+        for written in &changes.bodies {
+            assert_eq!(rt; written.body.tags.as_slice(), [TagRef::New(0)].as_slice());
+        }
         Ok(())
     }
 }
