@@ -7,3 +7,5 @@ pub mod file_shelf;
 pub mod shelf;
 pub mod sink;
 pub mod source;
+#[cfg(test)]
+mod tests;

@@ -3,7 +3,7 @@
 ghost use Rattle.std.specs.Prelude.{◌≡◌, ◌⊎◌, ℕ, ◌<◌, ◌≤◌, [], ◌∷◌, ◌++◌, false, length, Option, None, Some, IfOk, IfSome, IsSomeAnd, IsErrOf, OnOk, OnErr, find, bytes_eq, option_copied};
 ghost use Rattle.bc_base.specs.Outside.{Rose};
 ghost use Rattle.bc_base.specs.Files.{Told, file_of, told_after, told_of};
-ghost use Rattle.bc_base.specs.Calls.{next_count, is_to_fail, shelf_answer};
+ghost use Rattle.bc_base.specs.Calls.{next_count, is_to_fail, calls_after, is_fault, shelf_answer};
 ghost use Rattle.bc_base.specs.declared.shelf.ShelfFault.TheVariants.{TooLong, Failed, Memory};
 
 use crate::calls::Calls;
@@ -170,6 +170,7 @@ impl Shelf for MemoryShelf {
         ensures count { self.old.calls.faults ≤ self.new.calls.faults }
         ensures asked { told_of self.new.files self.new.asked
             ≡ told_after (told_of self.old.files self.old.asked) name.now result }
+        ensures calls { self.new.calls ≡ calls_after self.old.calls (is_fault result) }
         ensures exact { IsErrOf result Memory ⊎ (result ≡ shelf_answer
             (is_to_fail self.old.calls.fails self.old.calls.made) (file_of self.old.files name.now) limit) }
     {

@@ -2,7 +2,7 @@
 
 ghost use Rattle.std.specs.Prelude.{◌≡◌, ℕ, ◌+◌, ◌<◌, ◌≤◌, ◌==◌, ◌&&◌, ◌||◌, nat_lt, List, [], ◌++◌, length, take, Option, None, Some, IfOk, OnOk, OnErr, is_err, vec_len, vec_capacity};
 ghost use Rattle.bc_base.specs.Outside.{Rose, Appends, AppendsPart};
-ghost use Rattle.bc_base.specs.Calls.{is_to_fail, piece_len};
+ghost use Rattle.bc_base.specs.Calls.{is_to_fail, calls_after, piece_len};
 
 use crate::calls::{Calls, next_count};
 use crate::fault::Failed;
@@ -104,6 +104,10 @@ impl Sink for MemorySink {
         ensures failed { OnErr result (Rose self.old.calls.faults self.new.calls.faults) }
         ensures count { self.old.calls.faults ≤ self.new.calls.faults }
         ensures exact { IfOk result (λ n. n ≡ piece_len (length bytes.now) self.old.most self.old.room) }
+        ensures room { IfOk result (λ n. self.new.room + n ≡ self.old.room) }
+        ensures same_room { OnErr result (self.new.room ≡ self.old.room) }
+        ensures same_most { self.new.most ≡ self.old.most }
+        ensures calls { self.new.calls ≡ calls_after self.old.calls (is_err result) }
         ensures refused { is_err result ≡ (is_to_fail self.old.calls.fails self.old.calls.made
             || (nat_lt 0 (length bytes.now) && piece_len (length bytes.now) self.old.most self.old.room == 0)) }
     {

@@ -2,7 +2,7 @@
 
 ghost use Rattle.std.specs.Prelude.{◌≡◌, ℕ, ◌<◌, ◌≤◌, min, List, [], ◌++◌, length, take, drop, Option, None, Some, IfOk, OnErr, is_err};
 ghost use Rattle.bc_base.specs.Outside.{Rose, Consumes, IsAtEnd};
-ghost use Rattle.bc_base.specs.Calls.{is_to_fail};
+ghost use Rattle.bc_base.specs.Calls.{is_to_fail, calls_after};
 
 use crate::calls::{Calls, next_count};
 use crate::fault::Failed;
@@ -77,6 +77,7 @@ impl Source for MemorySource {
         ensures failed { OnErr result (Rose self.old.calls.faults self.new.calls.faults) }
         ensures count { self.old.calls.faults ≤ self.new.calls.faults }
         ensures exact { IfOk result (λ n. n ≡ min (length buf.old) (length (drop self.old.at self.old.content))) }
+        ensures calls { self.new.calls ≡ calls_after self.old.calls (is_err result) }
         ensures refused { is_err result ≡ is_to_fail self.old.calls.fails self.old.calls.made }
     {
         if self.calls.begin() {
