@@ -1,2 +1,4 @@
 pub mod Small
 pub mod Run
+pub mod Texts
+pub mod Commands

@@ -1,0 +1,65 @@
+-- The texts that the program writes beside a program's output.
+use Rattle.std.specs.Prelude.{ℕ, List, [], ◌∷◌, ◌++◌, length, take, codes, slice_get, Option, Some, None}
+use Rattle.std.specs.List.{flat_map}
+use Rattle.std.specs.Fmt.{decimal}
+use Rattle.bc_data.specs.Program.{Parts}
+use Rattle.bc_data.specs.declared.program.Task.{Task}
+use Rattle.bc_data.specs.declared.run.Invocation.{Invocation}
+use Rattle.bc_data.specs.declared.run.FaultKind.{FaultKind}
+use Rattle.bc_data.specs.declared.run.FaultKind.TheVariants as fault
+use Rattle.bc_data.specs.declared.run.Place.{Place}
+use Rattle.bc_top.specs.declared.run.Failure.{Failure}
+
+abbrev pub line_feed : List ℕ
+line_feed = 10 ∷ []
+
+abbrev pub kind_name : FaultKind → List ℕ
+kind_name fault.Null = codes "Null"
+kind_name fault.Bounds = codes "Bounds"
+kind_name fault.Zero = codes "Zero"
+kind_name fault.Assert = codes "Assert"
+kind_name fault.Size = codes "Size"
+kind_name fault.Turns = codes "Turns"
+kind_name fault.Depth = codes "Depth"
+kind_name fault.Text = codes "Text"
+kind_name fault.TagSlots = codes "TagSlots"
+kind_name fault.Objects = codes "Objects"
+kind_name fault.Cells = codes "Cells"
+kind_name fault.Tags = codes "Tags"
+kind_name fault.Output = codes "Output"
+
+abbrev pub task_name : Option Task → List ℕ
+task_name None = []
+task_name (Some t) = t.name
+
+-- numbers joined by commas
+abbrev pub behind_comma : ℕ → List ℕ
+behind_comma n = 44 ∷ decimal n
+
+abbrev pub joined : List ℕ → List ℕ
+joined [] = []
+joined (n ∷ ns) = decimal n ++ flat_map behind_comma ns
+
+-- the instances behind a bar, where there are any
+abbrev pub tags_text : List ℕ → List ℕ
+tags_text [] = []
+tags_text (n ∷ ns) = 124 ∷ joined (n ∷ ns)
+
+-- as `join(2,3|0)`
+abbrev pub invocation_text : Parts → Invocation → List ℕ
+invocation_text P v = task_name (slice_get P.tasks v.task) ++ codes "(" ++ joined v.objects ++ tags_text v.tags ++ codes ")"
+
+-- as `3:14`
+abbrev pub place_text : Place → List ℕ
+place_text at = decimal at.line ++ codes ":" ++ decimal at.column
+
+-- as `failed: boom(0): Assert at 3:3`
+abbrev pub failure_line : Parts → Failure → List ℕ
+failure_line P f = codes "failed: " ++ invocation_text P f.v ++ codes ": " ++ kind_name f.fault.kind ++ codes " at " ++ place_text f.fault.at ++ line_feed
+
+-- so many were committed, and so many fail; the first 20 of these are named
+abbrev pub end_text : Parts → ℕ → List Failure → List ℕ
+end_text P committed failures = codes "end: " ++ decimal committed ++ codes " committed, " ++ decimal (length failures) ++ codes " failed" ++ line_feed ++ flat_map (failure_line P) (take 20 failures)
+
+abbrev pub spent_text : ℕ → List ℕ
+spent_text committed = codes "spent: " ++ decimal committed ++ codes " committed" ++ line_feed

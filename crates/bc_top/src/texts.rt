@@ -1,0 +1,142 @@
+// The texts that the program writes beside a program's output.
+
+ghost use Rattle.std.specs.Prelude.{◌≡◌, ℕ, [], ◌++◌, length, take, slice_get, IfOk, OnOk};
+ghost use Rattle.std.specs.List.{flat_map};
+ghost use Rattle.std.specs.Fmt.{decimal};
+ghost use Rattle.bc_top.specs.Texts.{kind_name, joined, behind_comma, tags_text, task_name, invocation_text, place_text, failure_line, end_text, spent_text};
+
+use crate::run::Failure;
+use bc_data::list::Bytes;
+use bc_data::program::Program;
+use bc_data::run::{FaultKind, Invocation, Place};
+use bc_data::text::natural;
+use std::alloc::{AllocError, Global};
+
+/// The name of a kind of fault.
+pub fn kind_name(kind: FaultKind) -> &'static [u8]
+    ensures { result.now ≡ kind_name kind }
+{
+    match kind {
+        FaultKind::Null => b"Null",
+        FaultKind::Bounds => b"Bounds",
+        FaultKind::Zero => b"Zero",
+        FaultKind::Assert => b"Assert",
+        FaultKind::Size => b"Size",
+        FaultKind::Turns => b"Turns",
+        FaultKind::Depth => b"Depth",
+        FaultKind::Text => b"Text",
+        FaultKind::TagSlots => b"TagSlots",
+        FaultKind::Objects => b"Objects",
+        FaultKind::Cells => b"Cells",
+        FaultKind::Tags => b"Tags",
+        FaultKind::Output => b"Output",
+    }
+}
+
+// Appends a number.
+fn push_number(text: &mut Bytes, alloc: Global, n: u64) -> Result<(), AllocError>
+    ensures { OnOk result (text.new ≡ text.old ++ decimal n) }
+{
+    text.extend_from_slice(natural(alloc, n)?.as_slice())
+}
+
+// Appends numbers, joined by commas.
+fn push_joined(text: &mut Bytes, alloc: Global, ids: &[u32]) -> Result<(), AllocError>
+    ensures { OnOk result (text.new ≡ text.old ++ joined ids.now) }
+{
+    let Some((first, rest)) = ids.split_first() else {
+        return Ok(());
+    };
+    push_number(text, alloc, u64::from(*first))?;
+    for id in rest {
+        text.push(b',')?;
+        push_number(text, alloc, u64::from(*id))?;
+    }
+    Ok(())
+}
+
+// Appends tag instances behind a bar, where there are any.
+fn push_tags(text: &mut Bytes, alloc: Global, ids: &[u32]) -> Result<(), AllocError>
+    ensures { OnOk result (text.new ≡ text.old ++ tags_text ids.now) }
+{
+    if ids.is_empty() {
+        return Ok(());
+    }
+    text.push(b'|')?;
+    push_joined(text, alloc, ids)
+}
+
+// Appends an invocation.
+fn push_invocation(
+    text: &mut Bytes,
+    alloc: Global,
+    program: &Program,
+    v: &Invocation,
+) -> Result<(), AllocError>
+    ensures { OnOk result (text.new ≡ text.old ++ invocation_text program.now v.now) }
+{
+    if let Some(task) = program.tasks().get(v.task as usize) {
+        text.extend_from_slice(task.name.as_slice())?;
+    }
+    text.extend_from_slice(b"(")?;
+    push_joined(text, alloc, v.objects.as_slice())?;
+    push_tags(text, alloc, v.tags.as_slice())?;
+    text.extend_from_slice(b")")
+}
+
+// Appends a place.
+fn push_place(text: &mut Bytes, alloc: Global, at: Place) -> Result<(), AllocError>
+    ensures { OnOk result (text.new ≡ text.old ++ place_text at) }
+{
+    push_number(text, alloc, u64::from(at.line))?;
+    text.extend_from_slice(b":")?;
+    push_number(text, alloc, u64::from(at.column))
+}
+
+// Appends the line of a failure.
+fn push_failure(
+    text: &mut Bytes,
+    alloc: Global,
+    program: &Program,
+    failure: &Failure,
+) -> Result<(), AllocError>
+    ensures { OnOk result (text.new ≡ text.old ++ failure_line program.now failure.now) }
+{
+    text.extend_from_slice(b"failed: ")?;
+    push_invocation(text, alloc, program, &failure.v)?;
+    text.extend_from_slice(b": ")?;
+    text.extend_from_slice(kind_name(failure.fault.kind))?;
+    text.extend_from_slice(b" at ")?;
+    push_place(text, alloc, failure.fault.at)?;
+    text.extend_from_slice(b"\n")
+}
+
+/// The text at the end of a run, with the lines of the first 20 failures.
+pub fn end_text(
+    alloc: Global,
+    program: &Program,
+    committed: usize,
+    failures: &[Failure],
+) -> Result<Bytes, AllocError>
+    ensures { IfOk result (λ text. text ≡ end_text program.now committed failures.now) }
+{
+    let mut text = Bytes::from_slice(alloc, b"end: ")?;
+    push_number(&mut text, alloc, committed as u64)?;
+    text.extend_from_slice(b" committed, ")?;
+    push_number(&mut text, alloc, failures.len() as u64)?;
+    text.extend_from_slice(b" failed\n")?;
+    for failure in failures.iter().take(20) {
+        push_failure(&mut text, alloc, program, failure)?;
+    }
+    Ok(text)
+}
+
+/// The text where the limit of commits is spent.
+pub fn spent_text(alloc: Global, committed: usize) -> Result<Bytes, AllocError>
+    ensures { IfOk result (λ text. text ≡ spent_text committed) }
+{
+    let mut text = Bytes::from_slice(alloc, b"spent: ")?;
+    push_number(&mut text, alloc, committed as u64)?;
+    text.extend_from_slice(b" committed\n")?;
+    Ok(text)
+}
