@@ -1,6 +1,6 @@
 // A vector that contracts see as a list.
 
-ghost use Rattle.std.specs.Prelude.{◌≡◌, ℕ, ◌+◌, ◌-◌, ◌^◌, ◌<◌, ◌≤◌, ◌==◌, [], ◌∷◌, ◌++◌, length, take, insert, remove, swap, swap_remove, slice_get, slice_set, slice_index_or, option_copied, option_to_list, IfOk, IfErr, IfSome, OnOk, OnErr, if◌then◌else◌};
+ghost use Rattle.std.specs.Prelude.{◌≡◌, ℕ, ◌+◌, ◌-◌, ◌^◌, ◌<◌, ◌≤◌, ◌==◌, [], ◌∷◌, ◌++◌, length, take, insert, remove, swap, swap_remove, slice_get, slice_set, slice_index_or, option_copied, option_to_list, IfOk, IfErr, IfSome, IsSome, ◌↔◌, OnOk, OnErr, if◌then◌else◌};
 ghost use Rattle.std.specs.List.{AllZip, list_any};
 ghost use Rattle.std.specs.Slice.Iter.{iter_rest, iter_steps};
 ghost use Rattle.std.specs.Iterator.Runs.{EveryRun, ItemsAre, ItemsMapTo};
@@ -108,7 +108,8 @@ impl<T> List<T> {
 
     /// Takes the last element off, if there is one.
     pub fn pop(&mut self) -> Option<T>
-        ensures { self.old ≡ self.new ++ option_to_list result }
+        ensures items { self.old ≡ self.new ++ option_to_list result }
+        ensures variant { IsSome result ↔ (0 < length self.old) }
     {
         self.items.pop()
     }
