@@ -1,16 +1,15 @@
 -- What is read is spelled so, and what is spelled so is read.
-use Rattle.std.proofs.Common.{◌≡◌, ℕ, zero, suc, ◌+◌, ◌<◌, ◌≤◌, Bool, true, false, cond, eqb, List, [], ◌∷◌, ◌++◌, length, map, Option, Some, None, Result, Ok, Err, IfOk, IfSome, IfNone, refl, sym, ap, subst, ◌∙◌, append_assoc, arith, inl, inr, ◌⊎◌, length-append}
+use Rattle.std.proofs.Common.{◌≡◌, ℕ, zero, suc, ◌<◌, ◌≤◌, Bool, true, false, cond, eqb, List, [], ◌∷◌, ◌++◌, length, map, Option, Some, None, Result, Ok, Err, IfOk, IfSome, IfNone, refl, sym, ap, subst, ◌∙◌, append_assoc, arith, inl, inr, ◌⊎◌}
 use Rattle.std.specs.Prelude.{codes}
 use Rattle.std.specs.List.{AllByRecursion, flat_map, sum_by}
 use Rattle.std.proofs.lemmas.Bool.{eqb-true, ne_eqb, cases_Bool}
-use Rattle.std.proofs.lemmas.List.{append-nil, nil_from_length}
+use Rattle.std.proofs.lemmas.List.{nil_from_length}
 use Rattle.std.proofs.lemmas.List.Sums.{sum_by-cons}
 use Rattle.std.proofs.lemmas.Option.{cond_some, same_Some}
-use Rattle.bc_data.specs.Program.{Parts}
-use Rattle.bc_top.specs.Small.{Step, Prints, Exits, SmallTask, printed, IsProgramOf}
-use Rattle.bc_top.specs.SmallText.{Token, Word, Text, Mark, Becomes, is_space, is_letter, spelling, IsToken, AreSpaces, Starts, Begins, Spells, same, is_keyword, close, comma_text, separated, truth, exit_front, print_front, step_tokens, class_tokens, guard_tokens, task_tokens, HasText, IsProper, are_different, names_of, IsSmall}
+use Rattle.bc_top.specs.Small.{Step, Prints, Exits, SmallTask, printed}
+use Rattle.bc_top.specs.SmallText.{Token, Word, Mark, is_space, AreSpaces, Starts, Begins, Spells, same, is_keyword, close, comma_text, separated, truth, exit_front, print_front, step_tokens, class_tokens, guard_tokens, task_tokens, HasText, IsProper, are_different, names_of, IsSmall}
 use Rattle.bc_top.specs.SmallReading.{◌>>=◌, choose, Finds, behind, with_front, word_at, text_at, expect, row, name_at, texts_at, print_at, truth_of, exit_at, step_at, steps_at, header_at, task_at, is_blank, tasks_at, program_at}
-use Rattle.bc_top.proofs.SmallTokens.{bind_some, guard_not, same-true, same-self, blank_behind, blank_from, seen, word_takes, word_again, front_some, text_at_takes, text_at_again, expect_takes, expect_again, no_brace, no_brace_exit, no_comma, other_word, total, weighs, total-append}
+use Rattle.bc_top.proofs.SmallTokens.{bind_some, guard_not, same-true, blank_behind, blank_from, seen, word_takes, word_again, front_some, text_at_takes, text_at_again, expect_takes, expect_again, no_brace, no_brace_exit, no_comma, other_word, total, weighs, total-append}
 
 -- ---- rows of tokens
 
@@ -58,11 +57,11 @@ texts_take (suc n) text x e =
     let P : List (List ℕ) × List ℕ → Type 0 = λ y. Begins (flat_map comma_text y.0) text y.1 in
     elim (choice (expect (Mark 44) text) (λ rest. text_at rest >>= λ y. with_front (y.0 ∷ []) (texts_at n y.1)) (Some ([], text)) (Some x) e) [
       | inl c ↦
-        (let b = bind_some (text_at c.0) (λ y. with_front (y.0 ∷ []) (texts_at n y.1)) x c.2 in
-        let f = front_some b.0.0 (texts_at n b.0.1) x b.2 in
-        subst P f.2 (c.0, expect_takes (Mark 44) text c.0 c.1, (b.0.1, text_at_takes c.0 b.0 b.1, texts_take n b.0.1 f.0 f.1)))
+          (let b = bind_some (text_at c.0) (λ y. with_front (y.0 ∷ []) (texts_at n y.1)) x c.2 in
+          let f = front_some b.0.0 (texts_at n b.0.1) x b.2 in
+          subst P f.2 (c.0, expect_takes (Mark 44) text c.0 c.1, (b.0.1, text_at_takes c.0 b.0 b.1, texts_take n b.0.1 f.0 f.1)))
       | inr c ↦ subst P (same_Some ([], text) x c.1) refl
-      ]
+    ]
 
 texts_again : (n : ℕ) (text : List ℕ) (ts : List (List ℕ)) (rest : List ℕ) → Begins (flat_map comma_text ts) text rest → expect (Mark 44) rest ≡ None → length ts < n → texts_at n text ≡ Some (ts, rest)
 unfolding texts_at
@@ -91,8 +90,11 @@ print_takes parameter text x e =
     let d = bind_some (row close c.0.1) (λ end. Some (Prints c.0.0, end)) x c.2 in
     let P : Step × List ℕ → Type 0 = λ y. Begins (step_tokens parameter y.0) text y.1 × HasText y.0 in
     let Q : List (List ℕ) × List ℕ → Type 0 = λ y. row close y.1 ≡ Some d.0 → P (Prints y.0, d.0) in
-    let made : Q (b.0.0 ∷ f.0.0, f.0.1) = λ closed. (joined print_front (separated (b.0.0 ∷ f.0.0) ++ close) text a.0 d.0 (row_takes print_front text a.0 a.1)
-        (joined (separated (b.0.0 ∷ f.0.0)) close a.0 f.0.1 d.0 (b.0.1, text_at_takes a.0 b.0 b.1, texts_take (length b.0.1) b.0.1 f.0 f.1) (row_takes close f.0.1 d.0 closed)), tt) in
+    let made : Q (b.0.0 ∷ f.0.0, f.0.1) = λ closed. (
+      joined print_front (separated (b.0.0 ∷ f.0.0) ++ close) text a.0 d.0 (row_takes print_front text a.0 a.1)
+          (joined (separated (b.0.0 ∷ f.0.0)) close a.0 f.0.1 d.0 (b.0.1, text_at_takes a.0 b.0 b.1, texts_take (length b.0.1) b.0.1 f.0 f.1) (row_takes close f.0.1 d.0 closed)),
+      tt,
+    ) in
     subst P (same_Some (Prints c.0.0, d.0) x d.2) (subst Q f.2 made d.1)
 
 truth_takes : (w : List ℕ) (flag : Bool) → truth_of w ≡ Some flag → w ≡ truth flag
@@ -101,9 +103,9 @@ truth_takes w flag e =
     elim (cases_Bool (same w (codes "true"))) [
       | inl t ↦ subst P (same_Some true flag (rw t at e)) (same-true w (codes "true") t)
       | inr n ↦
-        (let g = cond_some (same w (codes "false")) false flag (rw n at e) in
-        subst P g.1 (same-true w (codes "false") g.0))
-      ]
+          (let g = cond_some (same w (codes "false")) false flag (rw n at e) in
+          subst P g.1 (same-true w (codes "false") g.0))
+    ]
 
 truth_again : (flag : Bool) → truth_of (truth flag) ≡ Some flag
 truth_again true = refl
@@ -128,12 +130,12 @@ unfolding step_at
 step_takes parameter text x e =
     elim (choice (row (exit_front parameter) text) (λ rest. exit_at rest >>= λ y. Some (Exits y.0, y.1)) (print_at text) (Some x) e) [
       | inl c ↦
-        (let b = bind_some (exit_at c.0) (λ y. Some (Exits y.0, y.1)) x c.2 in
-        let P : Step × List ℕ → Type 0 = λ y. Begins (step_tokens parameter y.0) text y.1 × HasText y.0 in
-        subst P (same_Some (Exits b.0.0, b.0.1) x b.2)
-            (joined (exit_front parameter) (Word (truth b.0.0) ∷ close) text c.0 b.0.1 (row_takes (exit_front parameter) text c.0 c.1) (exit_takes c.0 b.0 b.1), tt))
+          (let b = bind_some (exit_at c.0) (λ y. Some (Exits y.0, y.1)) x c.2 in
+          let P : Step × List ℕ → Type 0 = λ y. Begins (step_tokens parameter y.0) text y.1 × HasText y.0 in
+          subst P (same_Some (Exits b.0.0, b.0.1) x b.2)
+          (joined (exit_front parameter) (Word (truth b.0.0) ∷ close) text c.0 b.0.1 (row_takes (exit_front parameter) text c.0 c.1) (exit_takes c.0 b.0 b.1), tt))
       | inr c ↦ print_takes parameter text x c.1
-      ]
+    ]
 
 no_exit : (parameter text rest : List ℕ) → Starts (Word (codes "print")) text rest → row (exit_front parameter) text ≡ None
 no_exit parameter text rest h = rw (other_word (codes "print") (codes "taskexit") text rest h refl) refl
@@ -164,14 +166,14 @@ steps_take (suc n) parameter text x e =
     elim (choice (expect (Mark 125) text) (λ rest. Some ([], rest)) (step_at parameter text >>= λ y. with_front (y.0 ∷ []) (steps_at n parameter y.1)) (Some x) e) [
       | inl c ↦ subst P (same_Some ([], c.0) x c.2) ((c.0, expect_takes (Mark 125) text c.0 c.1, refl), tt)
       | inr c ↦
-        (let b = bind_some (step_at parameter text) (λ y. with_front (y.0 ∷ []) (steps_at n parameter y.1)) x c.1 in
-        let f = front_some b.0.0 (steps_at n parameter b.0.1) x b.2 in
-        let one = step_takes parameter text b.0 b.1 in
-        let others = steps_take n parameter b.0.1 f.0 f.1 in
-        let both = joined (step_tokens parameter b.0.0) (body_tokens parameter f.0.0) text b.0.1 f.0.1 one.0 others.0 in
-        let regrouped : step_tokens parameter b.0.0 ++ body_tokens parameter f.0.0 ≡ body_tokens parameter (b.0.0 ∷ f.0.0) = sym (append_assoc (step_tokens parameter b.0.0) (flat_map (step_tokens parameter) f.0.0) (Mark 125 ∷ [])) in
-        subst P f.2 (subst (λ (ts : List Token). Begins ts text f.0.1) regrouped both, (one.1, others.1)))
-      ]
+          (let b = bind_some (step_at parameter text) (λ y. with_front (y.0 ∷ []) (steps_at n parameter y.1)) x c.1 in
+          let f = front_some b.0.0 (steps_at n parameter b.0.1) x b.2 in
+          let one = step_takes parameter text b.0 b.1 in
+          let others = steps_take n parameter b.0.1 f.0 f.1 in
+          let both = joined (step_tokens parameter b.0.0) (body_tokens parameter f.0.0) text b.0.1 f.0.1 one.0 others.0 in
+          let regrouped : step_tokens parameter b.0.0 ++ body_tokens parameter f.0.0 ≡ body_tokens parameter (b.0.0 ∷ f.0.0) = sym (append_assoc (step_tokens parameter b.0.0) (flat_map (step_tokens parameter) f.0.0) (Mark 125 ∷ [])) in
+          subst P f.2 (subst (λ (ts : List Token). Begins ts text f.0.1) regrouped both, (one.1, others.1)))
+    ]
 
 no_end : (parameter text : List ℕ) (s : Step) (end : List ℕ) → Begins (step_tokens parameter s) text end → expect (Mark 125) text ≡ None
 no_end parameter text (Prints ts) end h = no_brace _ text h.0 h.1
@@ -248,8 +250,13 @@ header_takes text x e =
 header_again : (text : List ℕ) (x : List ℕ × List ℕ × List ℕ) → HeaderIs text x → header_at text ≡ Some x
 unfolding header_at
 header_again text x h =
-    rw (expect_again (Word (codes "task")) text h.start h.first, name_again x.0 h.start h.class h.name h.name_fits, row_again class_tokens h.class h.place h.before,
-    name_again x.1 h.place h.guard h.parameter h.parameter_fits, row_again guard_tokens h.guard x.2 h.behind) refl
+    rw (
+      expect_again (Word (codes "task")) text h.start h.first,
+      name_again x.0 h.start h.class h.name h.name_fits,
+      row_again class_tokens h.class h.place h.before,
+      name_again x.1 h.place h.guard h.parameter h.parameter_fits,
+      row_again guard_tokens h.guard x.2 h.behind,
+    ) refl
 
 task_takes : (text : List ℕ) (x : (List ℕ × SmallTask) × List ℕ) → task_at text ≡ Some x → Begins (task_tokens x.0) text x.1 × IsProper x.0
 unfolding task_at
@@ -260,10 +267,19 @@ task_takes text x e =
     let s = steps_take (length a.0.2) a.0.1 a.0.2 b.0 b.1 in
     let P : (List ℕ × SmallTask) × List ℕ → Type 0 = λ y. Begins (task_tokens y.0) text y.1 × IsProper y.0 in
     let made : (List ℕ × SmallTask) × List ℕ = ((a.0.1, record { name = a.0.0; steps = b.0.0 }), b.0.1) in
-    subst P (same_Some made x b.2)
-        ((h.start, h.first, (h.class, h.name, joined class_tokens (Word a.0.1 ∷ (guard_tokens ++ body_tokens a.0.1 b.0.0)) h.class h.place b.0.1 h.before
-            (h.guard, h.parameter, joined guard_tokens (body_tokens a.0.1 b.0.0) h.guard a.0.2 b.0.1 h.behind s.0))),
-        (h.name_fits, h.parameter_fits, s.1))
+    subst P (same_Some made x b.2) (
+      (
+        h.start,
+        h.first,
+        (
+          h.class,
+          h.name,
+          joined class_tokens (Word a.0.1 ∷ (guard_tokens ++ body_tokens a.0.1 b.0.0)) h.class h.place b.0.1 h.before
+              (h.guard, h.parameter, joined guard_tokens (body_tokens a.0.1 b.0.0) h.guard a.0.2 b.0.1 h.behind s.0),
+        ),
+      ),
+      (h.name_fits, h.parameter_fits, s.1),
+    )
 
 task_again : (text : List ℕ) (parameter : List ℕ) (task : SmallTask) (end : List ℕ) → IsProper (parameter, task) → Begins (task_tokens (parameter, task)) text end → task_at text ≡ Some ((parameter, task), end)
 unfolding task_at
@@ -313,13 +329,13 @@ tasks_take (suc n) text named e =
     elim (cases_Bool (is_blank text)) [
       | inl blank ↦ (let made : List (List ℕ × SmallTask) = [] in subst P (same_Some made named (rw blank at e)) (no_task (suc n) text blank))
       | inr full ↦
-        (let a = bind_some (task_at text) (λ x. tasks_at n x.1 >>= λ others. Some (x.0 ∷ others)) named (rw full at e) in
-        let b = bind_some (tasks_at n a.0.1) (λ others. Some (a.0.0 ∷ others)) named a.2 in
-        let t = task_takes text a.0 a.1 in
-        let others = tasks_take n a.0.1 b.0 b.1 in
-        let spelled : Spells (flat_map task_tokens (a.0.0 ∷ b.0)) text = (others.0.0, joined (task_tokens a.0.0) (flat_map task_tokens b.0) text a.0.1 others.0.0 t.0 others.0.1, others.0.2) in
-        subst P (same_Some (a.0.0 ∷ b.0) named b.2) (spelled, (t.1, others.1), omega (arith, others.2)))
-      ]
+          (let a = bind_some (task_at text) (λ x. tasks_at n x.1 >>= λ others. Some (x.0 ∷ others)) named (rw full at e) in
+          let b = bind_some (tasks_at n a.0.1) (λ others. Some (a.0.0 ∷ others)) named a.2 in
+          let t = task_takes text a.0 a.1 in
+          let others = tasks_take n a.0.1 b.0 b.1 in
+          let spelled : Spells (flat_map task_tokens (a.0.0 ∷ b.0)) text = (others.0.0, joined (task_tokens a.0.0) (flat_map task_tokens b.0) text a.0.1 others.0.0 t.0 others.0.1, others.0.2) in
+          subst P (same_Some (a.0.0 ∷ b.0) named b.2) (spelled, (t.1, others.1), omega (arith, others.2)))
+    ]
 
 tasks_again : (n : ℕ) (text : List ℕ) (named : List (List ℕ × SmallTask)) → Tasks n text named → tasks_at n text ≡ Some named
 unfolding tasks_at
@@ -367,9 +383,10 @@ PrintsLittle n small = AllByRecursion (λ t. printed t.steps ≤ n) small
 tasks_printed : (n : ℕ) (named : List (List ℕ × SmallTask)) → total (flat_map task_tokens named) ≤ n → PrintsLittle n (map (λ x. x.1) named)
 tasks_printed n [] h = tt
 tasks_printed n ((parameter, task) ∷ named) h =
-    let both = total-append (task_tokens (parameter, task)) (flat_map task_tokens named) in
-    (omega (arith, h, both, steps_printed parameter task.steps, total-append (flat_map (step_tokens parameter) task.steps) (Mark 125 ∷ [])),
-    tasks_printed n named (omega (arith, h, both)))
+    let both = total-append (task_tokens (parameter, task)) (flat_map task_tokens named) in (
+      omega (arith, h, both, steps_printed parameter task.steps, total-append (flat_map (step_tokens parameter) task.steps) (Mark 125 ∷ [])),
+      tasks_printed n named (omega (arith, h, both)),
+    )
 
 pub little : (text : List ℕ) (small : List SmallTask) → IsSmall text small → (length small ≤ 256) × AllByRecursion (λ t. printed t.steps ≤ length text) small
 little text small h =

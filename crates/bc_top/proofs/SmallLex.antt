@@ -1,5 +1,5 @@
 -- The bytes at the front of a text that pass a test.
-use Rattle.std.proofs.Common.{◌≡◌, ℕ, ◌-◌, ◌+◌, ◌≤◌, Bool, true, false, cond, List, [], ◌∷◌, ◌++◌, length, take, refl, sym, ap, ◌∙◌, length-append, arith}
+use Rattle.std.proofs.Common.{◌≡◌, ℕ, ◌-◌, ◌≤◌, Bool, true, false, cond, List, [], ◌∷◌, ◌++◌, length, take, refl, sym, ap, ◌∙◌, length-append, arith}
 use Rattle.std.proofs.lemmas.List.{take_at}
 use Rattle.bc_top.specs.SmallReading.{front, behind}
 
@@ -9,7 +9,7 @@ front_behind p [] = refl
 front_behind p (b ∷ s) = elim (p b) as (λ v. cond v (b ∷ front p s) [] ++ cond v (behind p s) (b ∷ s) ≡ b ∷ s) [
   | true ↦ ap (λ t. b ∷ t) (front_behind p s)
   | false ↦ refl
-  ]
+]
 
 pub front_is : (p : ℕ → Bool) (s : List ℕ) → take (length s - length (behind p s)) s ≡ front p s
 front_is p s =

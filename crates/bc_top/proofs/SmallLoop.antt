@@ -7,7 +7,7 @@ use Rattle.bc_data.specs.declared.program.Stat.{Stat}
 use Rattle.bc_data.specs.declared.program.Task.{Task}
 use Rattle.bc_top.specs.Small.{Step, Prints, Exits, SmallTask, AreTexts, IsStep, AreSteps, IsSmallTask, AreSmallTasks}
 use Rattle.bc_top.specs.SmallText.{Mark, print_front, exit_front, close, are_different, names_of}
-use Rattle.bc_top.specs.SmallReading.{◌>>=◌, choose, Gives, with_front, expect, text_at, texts_at, step_at, steps_at, is_blank, header_at, task_at, tasks_at, row, print_at, exit_at, program_at}
+use Rattle.bc_top.specs.SmallReading.{◌>>=◌, Gives, with_front, expect, text_at, texts_at, step_at, steps_at, is_blank, header_at, task_at, tasks_at, row, print_at, exit_at, program_at}
 
 abbrev pub with_tasks : List (List ℕ × SmallTask) → Option (List (List ℕ × SmallTask)) → Option (List (List ℕ × SmallTask))
 with_tasks done read = read >>= λ x. Some (done ++ x)

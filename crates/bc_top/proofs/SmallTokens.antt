@@ -1,15 +1,15 @@
 -- A token that is read stands at the front, and one that stands there is read.
-use Rattle.std.proofs.Common.{◌≡◌, ℕ, zero, suc, ◌<◌, ◌≤◌, Bool, true, false, cond, not, eqb, leb, ◌&&◌, ◌||◌, List, [], ◌∷◌, ◌++◌, length, Option, Some, None, refl, sym, ap, subst, ◌∙◌, append_assoc, arith, inl, inr, ◌+◌, length-append}
+use Rattle.std.proofs.Common.{◌≡◌, ℕ, ◌≤◌, Bool, true, false, cond, eqb, leb, ◌&&◌, ◌||◌, List, [], ◌∷◌, ◌++◌, length, Option, Some, None, refl, sym, ap, subst, ◌∙◌, append_assoc, arith, inl, inr, ◌+◌, length-append}
 use Rattle.std.specs.List.{AllByRecursion, flat_map}
 use Rattle.std.specs.Cmp.Lexicographic.{bytes_decides}
-use Rattle.std.proofs.lemmas.Bool.{eqb-true, eqb-false, eq-eqb, ne_eqb, leb-true, and_parts, and_from, or_parts, or_cases, or_left, cond_both, not-true, cond-true}
+use Rattle.std.proofs.lemmas.Bool.{eqb-true, eq-eqb, ne_eqb, leb-true, and_parts, or_parts, or_cases, or_left, cond_both, not-true, cond-true}
 use Rattle.std.proofs.lemmas.Bool.Decides.{nat_tests}
 use Rattle.std.proofs.lemmas.List.{append-nil}
 use Rattle.std.proofs.lemmas.Option.{cond_some, same_Some}
 use Rattle.bc_top.specs.declared.small.lex.TextStep.{TextStep}
 use Rattle.bc_top.specs.declared.small.lex.TextStep.TheVariants.{Close, Escape, Byte, Bad}
 use Rattle.bc_top.specs.SmallText.{Token, Word, Text, Mark, Becomes, is_space, is_letter, is_word_byte, is_text_byte, escaped, spelling, IsWord, IsToken, ends, AreSpaces, Starts, Begins, same}
-use Rattle.bc_top.specs.SmallReading.{◌>>=◌, choose, front, behind, starts, word_of, mark_of, becomes_of, text_step, with_front, text_from, text_of, word_at, mark_at, becomes_at, text_at, expect}
+use Rattle.bc_top.specs.SmallReading.{◌>>=◌, front, behind, starts, word_of, mark_of, becomes_of, text_step, with_front, text_from, text_of, word_at, mark_at, becomes_at, text_at, expect}
 use Rattle.bc_top.proofs.SmallLex.{front_behind}
 
 -- ---- tools
@@ -216,7 +216,7 @@ step_is true b =
     (λ e. elim (or_cases (eqb b 34) (eqb b 92) e) [
       | inl h ↦ (let k : kept 34 = (refl, refl) in subst (λ (n : ℕ). kept n) (sym (eqb-true b 34 h)) k)
       | inr h ↦ (let k : kept 92 = (refl, refl) in subst (λ (n : ℕ). kept n) (sym (eqb-true b 92 h)) k)
-      ])
+    ])
     (λ _. tt)))
 step_is false b =
     cond_both (eqb b 34) Close _ (StepIs false b) (λ e. eqb-true b 34 e)
@@ -236,7 +236,7 @@ after_step step rest = elim step [
   | Escape ↦ text_from true rest
   | Byte c ↦ with_front (c ∷ []) (text_from false rest)
   | Bad ↦ None
-  ]
+]
 
 put : (c : ℕ) (e s t rest : List ℕ) → escaped c ≡ e → s ≡ flat_map escaped t ++ (34 ∷ rest) → e ++ s ≡ flat_map escaped (c ∷ t) ++ (34 ∷ rest)
 put c e s t rest h m = ap (λ u. e ++ u) m ∙ ap (λ u. u ++ (flat_map escaped t ++ (34 ∷ rest))) (sym h) ∙ sym (append_assoc (escaped c) (flat_map escaped t) (34 ∷ rest))
@@ -274,11 +274,11 @@ one_again b u h =
     (λ e. elim (or_cases (eqb b 34) (eqb b 92) e) [
       | inl q ↦ rw (eqb-true b 34 q) refl
       | inr q ↦ rw (eqb-true b 92 q) refl
-      ])
+    ])
     (λ n. let t = or_parts (eqb b 34) (eqb b 92) n in
-        let r : (leb 32 b && leb b 126) ≡ true = rw (n10, n9) at h in
-        let stepped : text_step false b ≡ Byte b = rw (t.0, t.1, r) refl in
-        ap (λ v. after_step v u) stepped)))
+    let r : (leb 32 b && leb b 126) ≡ true = rw (n10, n9) at h in
+    let stepped : text_step false b ≡ Byte b = rw (t.0, t.1, r) refl in
+    ap (λ v. after_step v u) stepped)))
 
 text_from_again : (t rest : List ℕ) → IsText t → text_from false (flat_map escaped t ++ (34 ∷ rest)) ≡ Some (t, rest)
 unfolding text_from
@@ -323,9 +323,9 @@ escaped_long : (t : List ℕ) → length t ≤ length (flat_map escaped t)
 escaped_long [] = omega arith
 escaped_long (b ∷ t) =
     let one : 1 ≤ length (escaped b) =
-        cond_both (eqb b 10) (92 ∷ 110 ∷ []) _ (λ e. 1 ≤ length e) (λ _. omega arith)
-        (λ _. cond_both (eqb b 9) (92 ∷ 116 ∷ []) _ (λ e. 1 ≤ length e) (λ _. omega arith)
-        (λ _. cond_both (eqb b 34 || eqb b 92) (92 ∷ b ∷ []) (b ∷ []) (λ e. 1 ≤ length e) (λ _. omega arith) (λ _. omega arith))) in
+    cond_both (eqb b 10) (92 ∷ 110 ∷ []) _ (λ e. 1 ≤ length e) (λ _. omega arith)
+    (λ _. cond_both (eqb b 9) (92 ∷ 116 ∷ []) _ (λ e. 1 ≤ length e) (λ _. omega arith)
+    (λ _. cond_both (eqb b 34 || eqb b 92) (92 ∷ b ∷ []) (b ∷ []) (λ e. 1 ≤ length e) (λ _. omega arith) (λ _. omega arith))) in
     omega (arith, one, escaped_long t, length-append (escaped b) (flat_map escaped t))
 
 size_le : (token : Token) → IsToken token → size token ≤ length (spelling token)

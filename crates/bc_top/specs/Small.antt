@@ -1,6 +1,6 @@
 -- Programs of the small form: each task takes the startup object while `initialstate` is set, prints texts, and may leave
 -- by setting or clearing that flag.
-use Rattle.std.specs.Prelude.{◌≡◌, ℕ, Bool, List, [], ◌∷◌, ◌++◌, ◌+◌, length, None, codes}
+use Rattle.std.specs.Prelude.{◌≡◌, ℕ, Bool, List, [], ◌∷◌, ◌+◌, length, None, codes}
 use Rattle.std.specs.List.{sum_by}
 use Rattle.bc_data.specs.Program.{Parts}
 use Rattle.bc_data.specs.declared.program.Class.{Class}

@@ -71,7 +71,7 @@ text_from open_escape (b ∷ rest) = elim (text_step open_escape b) [
   | Escape ↦ text_from true rest
   | Byte c ↦ with_front (c ∷ []) (text_from false rest)
   | Bad ↦ None
-  ]
+]
 
 abbrev pub text_of : List ℕ → Option (List ℕ × List ℕ)
 text_of [] = None
@@ -106,8 +106,8 @@ name_at text = word_at text >>= λ x. if is_keyword x.0 then None else Some x
 unfoldable pub texts_at : ℕ → List ℕ → Option (List (List ℕ) × List ℕ)
 texts_at zero text = None
 texts_at (suc n) text = choose (expect (Mark 44) text)
-  (λ rest. text_at rest >>= λ x. with_front (x.0 ∷ []) (texts_at n x.1))
-  (Some ([], text))
+    (λ rest. text_at rest >>= λ x. with_front (x.0 ∷ []) (texts_at n x.1))
+    (Some ([], text))
 
 unfoldable pub print_at : List ℕ → Option (Step × List ℕ)
 print_at text = do
@@ -130,14 +130,14 @@ exit_at text = do
 
 unfoldable pub step_at : List ℕ → List ℕ → Option (Step × List ℕ)
 step_at parameter text = choose (row (exit_front parameter) text)
-  (λ rest. exit_at rest >>= λ x. Some (Exits x.0, x.1))
-  (print_at text)
+    (λ rest. exit_at rest >>= λ x. Some (Exits x.0, x.1))
+    (print_at text)
 
 unfoldable pub steps_at : ℕ → List ℕ → List ℕ → Option (List Step × List ℕ)
 steps_at zero parameter text = None
 steps_at (suc n) parameter text = choose (expect (Mark 125) text)
-  (λ rest. Some ([], rest))
-  (step_at parameter text >>= λ x. with_front (x.0 ∷ []) (steps_at n parameter x.1))
+    (λ rest. Some ([], rest))
+    (step_at parameter text >>= λ x. with_front (x.0 ∷ []) (steps_at n parameter x.1))
 
 -- the task's name, the parameter's, and what stands behind the opening brace
 unfoldable pub header_at : List ℕ → Option (List ℕ × List ℕ × List ℕ)

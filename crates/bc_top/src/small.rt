@@ -4,3 +4,6 @@ mod lex;
 mod read;
 
 pub use read::{one_program, prints_little, read_small};
+
+#[cfg(test)]
+mod tests;

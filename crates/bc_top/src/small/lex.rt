@@ -1,8 +1,8 @@
 // Tokens of the small form.
 
-ghost use Rattle.std.specs.Prelude.{◌≡◌, ◌==◌, false};
-ghost use Rattle.bc_top.specs.SmallText.{Word, Mark, Becomes, is_space as is_space_byte, is_letter as is_letter_byte, is_word_byte as is_word_part, same, is_keyword as is_keyword_of};
-ghost use Rattle.bc_top.specs.SmallReading.{Gives, Reads, behind, word_at, mark_at, becomes_at, text_at, text_step as step_of, expect, text_from, name_at, starts};
+ghost use Rattle.std.specs.Prelude.{◌≡◌, false};
+ghost use Rattle.bc_top.specs.SmallText.{Word, Mark, Becomes, is_space as is_space_byte, is_letter as is_letter_byte, is_word_byte as is_word_part, ends, same, is_keyword as is_keyword_of};
+ghost use Rattle.bc_top.specs.SmallReading.{Gives, Reads, behind, word_at, mark_at, becomes_at, text_at, text_step as step_of, expect, text_from, name_at};
 
 use bc_data::list::{Bytes, List};
 use std::alloc::{AllocError, Global};
@@ -83,15 +83,16 @@ pub fn expect_mark(mark: u8, text: &[u8]) -> Option<&[u8]>
     ensures { Gives (λ x. x.now) result (expect (Mark mark) text.now) }
 {
     match past_spaces(text) {
-        [byte, rest @ ..] if *byte == mark && !(mark == b':' && starts_with_equals(rest)) => Some(rest),
+        [byte, rest @ ..] if *byte == mark && ends_before(mark, rest) => Some(rest),
         _ => None,
     }
 }
 
-fn starts_with_equals(text: &[u8]) -> bool
-    ensures { result ≡ starts (λ b. b == 61) text.now }
+// Whether the mark isn't the front of a longer one.
+fn ends_before(mark: u8, rest: &[u8]) -> bool
+    ensures { result ≡ ends (Mark mark) rest.now }
 {
-    text.first() == Some(&b'=')
+    mark != b':' || rest.first() != Some(&b'=')
 }
 
 /// What follows `:=`, if it stands at the front.
@@ -214,5 +215,9 @@ pub fn name(text: &[u8]) -> Option<(&[u8], &[u8])>
     ensures { Gives (λ x. (x.0.now, x.1.now)) result (name_at text.now) }
 {
     let (name, rest) = word(text)?;
-    if is_keyword(name) { None } else { Some((name, rest)) }
+    if is_keyword(name) {
+        None
+    } else {
+        Some((name, rest))
+    }
 }

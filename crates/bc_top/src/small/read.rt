@@ -6,7 +6,9 @@ ghost use Rattle.bc_top.specs.Small.{Step, SmallTask, printed, AreTexts, AreStep
 ghost use Rattle.bc_top.specs.SmallText.{print_front as print_start, exit_front as exit_start, close as closing, same, class_tokens, guard_tokens, are_different as are_different_names, IsSmall};
 ghost use Rattle.bc_top.specs.SmallReading.{Gives, Finds, with_front, row, truth_of as truth_from, is_blank as is_blank_text, texts_at, header_at, print_at, exit_at, step_at, steps_at, task_at, tasks_at, program_at};
 
-use crate::small::lex::{expect_becomes, expect_mark, expect_word, is, name as read_name, past_spaces, quoted, word};
+use crate::small::lex::{
+    expect_becomes, expect_mark, expect_word, is, name as read_name, past_spaces, quoted, word,
+};
 use bc_data::list::{Bytes, List};
 use bc_data::program::{Change, Class, Field, FlagExpr, Param, Part, Program, Shape, Stat, Task};
 use bc_data::run::Place;
@@ -107,7 +109,11 @@ fn truth_of(word: &[u8]) -> Option<bool>
 }
 
 #[tactic(auto, unfolding(crate::specs::SmallReading::step_at))]
-fn step<'a>(alloc: Global, parameter: &[u8], text: &'a [u8]) -> Result<Option<(Stat, &'a [u8])>, AllocError>
+fn step<'a>(
+    alloc: Global,
+    parameter: &[u8],
+    text: &'a [u8],
+) -> Result<Option<(Stat, &'a [u8])>, AllocError>
     ensures { Finds (λ x y. IsStep x.0 y.0 × (x.1.now ≡ y.1)) result (step_at parameter.now text.now) }
 {
     let Some(rest) = exit_front(parameter, text) else {
@@ -123,7 +129,11 @@ fn step<'a>(alloc: Global, parameter: &[u8], text: &'a [u8]) -> Result<Option<(S
 
 // The statements and the brace behind them.
 #[tactic(auto, unfolding(crate::specs::SmallReading::steps_at))]
-fn steps<'a>(alloc: Global, parameter: &[u8], text: &'a [u8]) -> Result<Option<(Vec<Stat>, &'a [u8])>, AllocError>
+fn steps<'a>(
+    alloc: Global,
+    parameter: &[u8],
+    text: &'a [u8],
+) -> Result<Option<(Vec<Stat>, &'a [u8])>, AllocError>
     ensures { Finds (λ x y. AreSteps x.0.items y.0 × (x.1.now ≡ y.1)) result (steps_at (length text.now) parameter.now text.now) }
 {
     let mut body = Vec::new(alloc);
@@ -228,7 +238,11 @@ fn tasks(alloc: Global, most: u32, text: &[u8]) -> Result<Option<Vec<Task>>, All
         tasks.push(next)?;
         rest = after;
     }
-    if is_blank(rest) { Ok(Some(tasks)) } else { Ok(None) }
+    if is_blank(rest) {
+        Ok(Some(tasks))
+    } else {
+        Ok(None)
+    }
 }
 
 fn is_named(tasks: &[Task], name: &[u8]) -> bool
@@ -302,7 +316,6 @@ fn read(alloc: Global, text: &[u8]) -> Result<Option<Program>, AllocError>
 
 /// The program that the text is, or `None` if it is no text of the small form.
 pub fn read_small(alloc: Global, text: &[u8]) -> Result<Option<Program>, AllocError>
-    requires { length text.now ≤ 65536 }
     ensures some { IfOk result (λ found. IfSome found (λ p. (small : Sequence SmallTask) × IsSmall text.now small × IsProgramOf p small)) }
     ensures none { IfOk result (λ found. IfNone found ((small : Sequence SmallTask) → IsSmall text.now small → ⊥)) }
 {
@@ -312,12 +325,10 @@ pub fn read_small(alloc: Global, text: &[u8]) -> Result<Option<Program>, AllocEr
 /// A text of the small form is one list of tasks.
 pub fn one_program()
     ensures { (text : Sequence ℕ) (a b : Sequence SmallTask) → IsSmall text a → IsSmall text b → a ≡ b }
-{
-}
+{}
 
 /// A program has at most 256 tasks, and each prints less than the text has bytes.
 pub fn prints_little()
     ensures { (text : Sequence ℕ) (small : Sequence SmallTask) → IsSmall text small →
         (length small ≤ 256) × AllByRecursion (λ t. printed t.steps ≤ length text) small }
-{
-}
+{}

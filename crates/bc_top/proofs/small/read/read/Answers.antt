@@ -1,4 +1,4 @@
-use Rattle.std.proofs.Common.{refl, sym, ap, ◌∙◌, map}
+use Rattle.std.proofs.Common.{sym, ap, ◌∙◌, map}
 use Rattle.bc_top.specs.SmallText.{are_different}
 use Rattle.bc_top.proofs.SmallLoop.{same_names, program_is, program_is_not}
 use Rattle.bc_top.proofs.small.read.read.Goals as goal

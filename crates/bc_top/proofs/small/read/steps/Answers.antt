@@ -1,6 +1,4 @@
-use Rattle.std.proofs.Common.{◌≡◌, ◌∷◌, [], ℕ, ◌-◌, length, List, ◌∙◌, ap, ◌++◌, refl, arith}
-use Rattle.bc_top.specs.Small.{AreSteps}
-use Rattle.bc_top.specs.SmallReading.{with_front, steps_at}
+use Rattle.std.proofs.Common.{◌∷◌, [], length, ◌++◌, refl}
 use Rattle.bc_top.proofs.SmallLoop.{more_steps, steps_go, steps_end, steps_bad}
 use Rattle.bc_top.proofs.small.read.steps.Goals as goal
 
@@ -17,7 +15,8 @@ returns-in_default-2 c =
 pub loop-i-preserved : goal.loop-i-preserved
 loop-i-preserved c =
     let i = c.loop-i.invariant in
-    let f = rw c.in-Some-2.is at c.in_ok-next.ensures in
-    (i.0 ++ f.0.0 ∷ [],
-    rw c.in_ok-push.ensures.items (more_steps c.loop-i.body.items i.0 c.in-Some-2.next f.0.0 i.1 f.2.0),
-    rw f.2.1 (steps_go i.0 (length c.args.text.now) c.loop-i.i c.args.parameter.now c.loop-i.rest.now f.0 _ c.loop-i-test.true c.in_default.ensures f.1 i.2))
+    let f = rw c.in-Some-2.is at c.in_ok-next.ensures in (
+      i.0 ++ f.0.0 ∷ [],
+      rw c.in_ok-push.ensures.items (more_steps c.loop-i.body.items i.0 c.in-Some-2.next f.0.0 i.1 f.2.0),
+      rw f.2.1 (steps_go i.0 (length c.args.text.now) c.loop-i.i c.args.parameter.now c.loop-i.rest.now f.0 _ c.loop-i-test.true c.in_default.ensures f.1 i.2),
+    )

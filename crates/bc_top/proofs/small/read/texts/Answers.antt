@@ -1,8 +1,6 @@
-use Rattle.std.proofs.Common.{◌≡◌, ◌∷◌, [], ℕ, ◌-◌, length, List, ◌∙◌, ap, ◌++◌, refl, arith}
+use Rattle.std.proofs.Common.{◌≡◌, ◌∷◌, [], ◌-◌, length, ◌∙◌, ap, ◌++◌, refl, arith}
 use Rattle.bc_data.specs.declared.program.Part.TheVariants as part
-use Rattle.bc_top.specs.Small.{AreTexts}
-use Rattle.bc_top.specs.SmallReading.{with_front, texts_at}
-use Rattle.bc_top.proofs.SmallLoop.{more_texts, texts_go, texts_end, texts_bad, texts_out}
+use Rattle.bc_top.proofs.SmallLoop.{more_texts, texts_go, texts_end, texts_bad}
 use Rattle.bc_top.proofs.small.read.texts.Goals as goal
 
 pub loop-i-init : goal.loop-i-init
@@ -24,7 +22,8 @@ returns-in_default-2 c =
 pub loop-i-preserved : goal.loop-i-preserved
 loop-i-preserved c =
     let i = c.loop-i.invariant in
-    let next = c.in-Some-2.next in
-    (i.0 ++ next ∷ [],
-    rw c.in_ok-push-2.ensures.items (more_texts c.loop-i.parts.items i.0 next i.1),
-    texts_go i.0 (length c.args.text.now) c.loop-i.i c.loop-i.rest.now c.in-Some.after.now (next, c.in-Some-2.after.now) _ c.loop-i-test.true c.in-Some.ensures (rw c.in-Some-2.is at c.in_ok-next.ensures) i.2)
+    let next = c.in-Some-2.next in (
+      i.0 ++ next ∷ [],
+      rw c.in_ok-push-2.ensures.items (more_texts c.loop-i.parts.items i.0 next i.1),
+      texts_go i.0 (length c.args.text.now) c.loop-i.i c.loop-i.rest.now c.in-Some.after.now (next, c.in-Some-2.after.now) _ c.loop-i-test.true c.in-Some.ensures (rw c.in-Some-2.is at c.in_ok-next.ensures) i.2,
+    )

@@ -5,4 +5,4 @@ use Rattle.bc_top.proofs.small.read.texts.Given as goal
 
 abbrev pub invariant-loop-i : goal.invariant-loop-i
 invariant-loop-i l = (done : List (List ℕ)) × AreTexts l.parts.items done
-  × (with_front done (texts_at (length l.fn.text - l.i) l.rest) ≡ with_front (l.fn.first ∷ []) (texts_at (length l.fn.text) l.fn.text))
+    × (with_front done (texts_at (length l.fn.text - l.i) l.rest) ≡ with_front (l.fn.first ∷ []) (texts_at (length l.fn.text) l.fn.text))
