@@ -6,3 +6,7 @@ pub mod Going
 pub mod Ending
 pub mod Rooms
 pub mod Serving
+pub mod SmallLex
+pub mod SmallLoop
+pub mod SmallTokens
+pub mod SmallLaws

@@ -1,6 +1,7 @@
 -- Programs of the small form: each task takes the startup object while `initialstate` is set, prints texts, and may leave
 -- by setting or clearing that flag.
-use Rattle.std.specs.Prelude.{◌≡◌, ℕ, Bool, List, [], ◌∷◌, ◌++◌, None, codes}
+use Rattle.std.specs.Prelude.{◌≡◌, ℕ, Bool, List, [], ◌∷◌, ◌+◌, length, None, codes}
+use Rattle.std.specs.List.{sum_by}
 use Rattle.bc_data.specs.Program.{Parts}
 use Rattle.bc_data.specs.declared.program.Class.{Class}
 use Rattle.bc_data.specs.declared.program.Field.{Field}
@@ -23,6 +24,12 @@ pub data Step : Type 0 where
 pub record SmallTask : Type 0 where
   pub name : List ℕ
   pub steps : List Step
+
+-- how many bytes the statements print together, if all are run
+abbrev pub printed : List Step → ℕ
+printed [] = 0
+printed (Prints texts ∷ steps) = sum_by (λ text. length text) texts + printed steps
+printed (Exits flag ∷ steps) = printed steps
 
 abbrev pub AreTexts : List Part → List (List ℕ) → Type 0
 AreTexts [] [] = Unit {0}
