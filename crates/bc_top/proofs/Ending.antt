@@ -5,6 +5,7 @@ use Rattle.std.specs.List.{range_with_len, find, filter_map, cons_option, AllByR
 use Rattle.std.proofs.lemmas.Bool.{leb-true, leb-false, lt-ltb, eq-eqb}
 use Rattle.std.proofs.lemmas.Bool.Decides.{eqb_tells, leb_tells}
 use Rattle.std.proofs.lemmas.List.Elements.{All-from_recursion}
+use Rattle.std.proofs.lemmas.List.FromFn.{length-map-range_with_len}
 use Rattle.bc_data.specs.Program.{Parts}
 use Rattle.bc_data.specs.declared.program.Task.{Task}
 use Rattle.bc_data.specs.declared.run.Invocation.{Invocation}
@@ -139,7 +140,7 @@ ends_idle P limit turn count f history out u none idle =
       history = refl;
       output = refl;
       replayed = u.replayed;
-      quiet = λ end. (λ k d lt. absurd (omega arith), sym (ap (filter_map (λ v. failure_of v (outcome P (store_at f out) v).ran)) idle));
+      quiet = λ end. (λ k d lt. absurd (omega arith), sym (ap (filter_map (λ v. failure_of v (outcome P (store_at f out) v).ran)) idle), sym nothing);
     }
 
 steps_add : (P : Parts) (limit m k : ℕ) (r : Course) → serial_steps P limit (m + k) r ≡ serial_steps P limit k (serial_steps P limit m r)
@@ -163,17 +164,19 @@ ends_at_limit P limit turn history out found h le u is =
       history = end.history;
       output = ap (λ S. S.output) end.store;
       replayed = u.replayed ∙ sym (ap Some end.store);
-      quiet = λ e. subst (λ S. IsQuiet P S × (failed_of P.tasks found ≡ failures_in P S)) (sym end.store) (quiet found is e);
+      quiet = λ e. subst (λ S. IsQuiet P S × (failed_of P.tasks found ≡ failures_in P S) × (length (failed_of P.tasks found) ≡ length (all_enabled P S))) (sym end.store) (quiet found is e);
     }
   where
-    quiet : (o : Option ℕ) → find (has_room P.tasks (length out)) (turns_from (length P.tasks) turn) ≡ o → stop_of o ≡ stop.End → IsQuiet P (store_at true out) × (failed_of P.tasks o ≡ failures_in P (store_at true out))
+    quiet : (o : Option ℕ) → find (has_room P.tasks (length out)) (turns_from (length P.tasks) turn) ≡ o → stop_of o ≡ stop.End →
+        IsQuiet P (store_at true out) × (failed_of P.tasks o ≡ failures_in P (store_at true out)) × (length (failed_of P.tasks o) ≡ length (all_enabled P (store_at true out)))
     quiet (Some k) found e = cc
     quiet None found e =
         let S = store_at true out in
         let all = all_enabled_at P true out h in
         let full = all_fault P out 0 (length P.tasks) h (omega arith) (λ k lt. find_none (has_room P.tasks (length out)) (turns_from (length P.tasks) turn) k found (has_turn (length P.tasks) turn k le lt)) in
         (subst (λ vs. All (λ v. IsFault (outcome P S v).ran) vs) (sym all) (All-from_recursion _ _ full.0),
-         sym full.1 ∙ sym (ap (filter_map (λ v. failure_of v (outcome P S v).ran)) all))
+         sym full.1 ∙ sym (ap (filter_map (λ v. failure_of v (outcome P S v).ran)) all),
+         length-map-range_with_len (full_failure P.tasks) 0 (length P.tasks) ∙ sym (ap length all ∙ length-map-range_with_len on_startup 0 (length P.tasks)))
 
 -- the flag is cleared, or there are no tasks
 pub ends_over : (P : Parts) (limit turn count : ℕ) (set : Bool) (history : List Invocation) (out : List ℕ) → AllCanRun P.tasks → IsUnderWay P limit set turn history out count → set ≡ false ⊎ length P.tasks ≡ 0 →

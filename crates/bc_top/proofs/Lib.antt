@@ -6,6 +6,8 @@ pub mod Going
 pub mod Ending
 pub mod Rooms
 pub mod Serving
+pub mod Commanding
+pub mod Qualifying
 pub mod SmallLex
 pub mod SmallLoop
 pub mod SmallTokens

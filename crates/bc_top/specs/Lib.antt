@@ -4,3 +4,4 @@ pub mod Texts
 pub mod Commands
 pub mod SmallText
 pub mod SmallReading
+pub mod Contract

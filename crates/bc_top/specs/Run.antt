@@ -121,6 +121,13 @@ pub record EndsAtLimit (tasks : List Task) (turn written : ℕ) (s : Stop) (fail
   pub stop : s ≡ stop_of (find (has_room tasks written) (turns_from (length tasks) turn))
   pub failures : failed ≡ failed_of tasks (find (has_room tasks written) (turns_from (length tasks) turn))
 
+-- a run of the small form ends so
+abbrev pub IsSmallStop : Stop → Type 0
+IsSmallStop stop.End = Unit {0}
+IsSmallStop (stop.Spent v) = Unit {0}
+IsSmallStop (stop.Crowded v) = ⊥
+IsSmallStop stop.Memory = ⊥
+
 -- the enabled invocations that fault in a store, with their faults
 abbrev pub failure_of : Invocation → Ran → Option Failure
 failure_of v (ran.Commit c) = None
@@ -137,4 +144,4 @@ pub record IsRunOf (P : Parts) (limit : ℕ) (committed : List Invocation) (s : 
   pub history : course.history ≡ committed
   pub output : course.store.output ≡ written
   pub replayed : replay P [] committed ≡ Some course.store
-  pub quiet : s ≡ stop.End → IsQuiet P course.store × (failed ≡ failures_in P course.store)
+  pub quiet : s ≡ stop.End → IsQuiet P course.store × (failed ≡ failures_in P course.store) × (length failed ≡ length (all_enabled P course.store))

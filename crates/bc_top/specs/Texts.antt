@@ -8,6 +8,8 @@ use Rattle.bc_data.specs.declared.run.Invocation.{Invocation}
 use Rattle.bc_data.specs.declared.run.FaultKind.{FaultKind}
 use Rattle.bc_data.specs.declared.run.FaultKind.TheVariants as fault
 use Rattle.bc_data.specs.declared.run.Place.{Place}
+use Rattle.bc_data.specs.declared.run.Stop.{Stop}
+use Rattle.bc_data.specs.declared.run.Stop.TheVariants as stop
 use Rattle.bc_top.specs.declared.run.Failure.{Failure}
 
 abbrev pub line_feed : List ℕ
@@ -57,9 +59,42 @@ place_text at = decimal at.line ++ codes ":" ++ decimal at.column
 abbrev pub failure_line : Parts → Failure → List ℕ
 failure_line P f = codes "failed: " ++ invocation_text P f.v ++ codes ": " ++ kind_name f.fault.kind ++ codes " at " ++ place_text f.fault.at ++ line_feed
 
--- so many were committed, and so many fail; the first 20 of these are named
+-- so many were committed, and so many fail
+abbrev pub end_line : ℕ → ℕ → List ℕ
+end_line committed failed = codes "end: " ++ decimal committed ++ codes " committed, " ++ decimal failed ++ codes " failed" ++ line_feed
+
+-- the end line, and the lines of the first 20 failures
 abbrev pub end_text : Parts → ℕ → List Failure → List ℕ
-end_text P committed failures = codes "end: " ++ decimal committed ++ codes " committed, " ++ decimal (length failures) ++ codes " failed" ++ line_feed ++ flat_map (failure_line P) (take 20 failures)
+end_text P committed failures = end_line committed (length failures) ++ flat_map (failure_line P) (take 20 failures)
 
 abbrev pub spent_text : ℕ → List ℕ
 spent_text committed = codes "spent: " ++ decimal committed ++ codes " committed" ++ line_feed
+
+abbrev pub crowded_text : ℕ → List ℕ
+crowded_text committed = codes "crowded: " ++ decimal committed ++ codes " committed, over 262144 enabled" ++ line_feed
+
+abbrev pub memory_text : List ℕ
+memory_text = codes "memory" ++ line_feed
+
+-- what a run tells of its end
+abbrev pub stop_text : Parts → Stop → ℕ → List Failure → List ℕ
+stop_text P stop.End committed failures = end_text P committed failures
+stop_text P (stop.Spent v) committed failures = spent_text committed
+stop_text P (stop.Crowded v) committed failures = crowded_text committed
+stop_text P stop.Memory committed failures = memory_text
+
+abbrev pub words_text : List ℕ
+words_text = codes "words: not a command" ++ line_feed
+
+abbrev pub read_text : List ℕ
+read_text = codes "read failed" ++ line_feed
+
+abbrev pub write_text : List ℕ
+write_text = codes "write failed" ++ line_feed
+
+abbrev pub long_text : List ℕ
+long_text = codes "too long" ++ line_feed
+
+-- a text that is no program of the small form
+abbrev pub refused_text : List ℕ
+refused_text = codes "refused: Unexpected at 1:1" ++ line_feed

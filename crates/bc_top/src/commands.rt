@@ -18,5 +18,10 @@ pub fn serial_commits(words: &[Bytes]) -> Option<u64>
     if command.as_slice() != b"serial".as_slice() {
         return None;
     }
-    read_decimal(commits.as_slice()).filter(|n| *n >= 1 && *n <= 256)
+    let limit = read_decimal(commits.as_slice())?;
+    if limit >= 1 && limit <= 256 {
+        Some(limit)
+    } else {
+        None
+    }
 }

@@ -3,7 +3,7 @@
 ghost use Rattle.std.specs.Prelude.{◌≡◌, ℕ, ◌+◌, ◌-◌, ◌<◌, ◌≤◌, [], ◌++◌, ◌⊎◌, true, false, length, map, IfOk, IfSome, OnOk};
 ghost use Rattle.std.specs.Bool.{OnTrue, OnFalse};
 ghost use Rattle.std.specs.List.{find, range_with_len};
-ghost use Rattle.bc_top.specs.Run.{text_of, text_of_parts, exit_of, flag_of, has_room, full_failure, turns_from, next_turn, AllCanRun, AllShort, Commits, EndsAtLimit, IsRunOf, on_startup};
+ghost use Rattle.bc_top.specs.Run.{text_of, text_of_parts, exit_of, flag_of, has_room, full_failure, turns_from, next_turn, AllCanRun, AllShort, Commits, EndsAtLimit, IsRunOf, IsSmallStop, on_startup};
 
 use bc_data::ids::Ids;
 use bc_data::list::{Bytes, List};
@@ -228,6 +228,7 @@ fn at_limit(alloc: Global, tasks: &[Task], course: Course) -> Result<Run, AllocE
     ensures history { IfOk result (λ run. run.history ≡ course.history) }
     ensures output { IfOk result (λ run. run.output ≡ course.output) }
     ensures ended { IfOk result (λ run. EndsAtLimit tasks.now course.turn (length course.output) run.stop run.failures) }
+    ensures stop { IfOk result (λ run. IsSmallStop run.stop) }
 {
     let Course {
         turn, history, output, ..
@@ -253,7 +254,8 @@ pub fn run_serial(alloc: Global, program: &Program, limit: usize) -> Result<Run,
     requires small { AllCanRun program.now.tasks }
     requires few { length program.now.tasks ≤ 256 }
     requires limit { limit ≤ 256 }
-    ensures { IfOk result (λ run. IsRunOf program.now limit run.history run.stop run.output run.failures) }
+    ensures run { IfOk result (λ run. IsRunOf program.now limit run.history run.stop run.output run.failures) }
+    ensures stop { IfOk result (λ run. IsSmallStop run.stop) }
 {
     let tasks = program.tasks();
     let mut course = Course {

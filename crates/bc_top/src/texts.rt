@@ -3,11 +3,11 @@
 ghost use Rattle.std.specs.Prelude.{◌≡◌, ℕ, [], ◌++◌, length, take, slice_get, IfOk, OnOk};
 ghost use Rattle.std.specs.List.{flat_map};
 ghost use Rattle.std.specs.Fmt.{decimal};
-ghost use Rattle.bc_top.specs.Texts.{kind_name, joined, behind_comma, tags_text, task_name, invocation_text, place_text, failure_line, end_text, spent_text};
+ghost use Rattle.bc_top.specs.Texts.{kind_name, joined, behind_comma, tags_text, task_name, invocation_text, place_text, failure_line, end_line, end_text, spent_text};
 
 use crate::run::Failure;
 use bc_data::list::Bytes;
-use bc_data::program::Program;
+use bc_data::program::{Program, Task};
 use bc_data::run::{FaultKind, Invocation, Place};
 use bc_data::text::natural;
 use std::alloc::{AllocError, Global};
@@ -66,6 +66,16 @@ fn push_tags(text: &mut Bytes, alloc: Global, ids: &[u32]) -> Result<(), AllocEr
     push_joined(text, alloc, ids)
 }
 
+// Appends the name of a task.
+fn push_name(text: &mut Bytes, tasks: &[Task], task: usize) -> Result<(), AllocError>
+    ensures { OnOk result (text.new ≡ text.old ++ task_name (slice_get tasks.now task)) }
+{
+    if task < tasks.len() {
+        text.extend_from_slice(tasks[task].name.as_slice())?;
+    }
+    Ok(())
+}
+
 // Appends an invocation.
 fn push_invocation(
     text: &mut Bytes,
@@ -75,9 +85,7 @@ fn push_invocation(
 ) -> Result<(), AllocError>
     ensures { OnOk result (text.new ≡ text.old ++ invocation_text program.now v.now) }
 {
-    if let Some(task) = program.tasks().get(v.task as usize) {
-        text.extend_from_slice(task.name.as_slice())?;
-    }
+    push_name(text, program.tasks(), v.task as usize)?;
     text.extend_from_slice(b"(")?;
     push_joined(text, alloc, v.objects.as_slice())?;
     push_tags(text, alloc, v.tags.as_slice())?;
@@ -108,7 +116,47 @@ fn push_failure(
     text.extend_from_slice(kind_name(failure.fault.kind))?;
     text.extend_from_slice(b" at ")?;
     push_place(text, alloc, failure.fault.at)?;
-    text.extend_from_slice(b"\n")
+    text.push(b'\n')?;
+    Ok(())
+}
+
+// Appends the lines of failures.
+fn push_failures(
+    text: &mut Bytes,
+    alloc: Global,
+    program: &Program,
+    failures: &[Failure],
+) -> Result<(), AllocError>
+    ensures { OnOk result (text.new ≡ text.old ++ flat_map (failure_line program.now) failures.now) }
+{
+    for failure in failures {
+        push_failure(text, alloc, program, failure)?;
+    }
+    Ok(())
+}
+
+// At most the first 20.
+fn first_20(failures: &[Failure]) -> &[Failure]
+    ensures { result.now ≡ take 20 failures.now }
+{
+    if failures.len() > 20 {
+        &failures[..20]
+    } else {
+        failures
+    }
+}
+
+// The line that counts what was committed and what fails.
+fn end_line(alloc: Global, committed: usize, failed: usize) -> Result<Bytes, AllocError>
+    ensures { IfOk result (λ text. text ≡ end_line committed failed) }
+{
+    let mut text = Bytes::from_slice(alloc, b"end: ")?;
+    push_number(&mut text, alloc, committed as u64)?;
+    text.extend_from_slice(b" committed, ")?;
+    push_number(&mut text, alloc, failed as u64)?;
+    text.extend_from_slice(b" failed")?;
+    text.push(b'\n')?;
+    Ok(text)
 }
 
 /// The text at the end of a run, with the lines of the first 20 failures.
@@ -120,14 +168,8 @@ pub fn end_text(
 ) -> Result<Bytes, AllocError>
     ensures { IfOk result (λ text. text ≡ end_text program.now committed failures.now) }
 {
-    let mut text = Bytes::from_slice(alloc, b"end: ")?;
-    push_number(&mut text, alloc, committed as u64)?;
-    text.extend_from_slice(b" committed, ")?;
-    push_number(&mut text, alloc, failures.len() as u64)?;
-    text.extend_from_slice(b" failed\n")?;
-    for failure in failures.iter().take(20) {
-        push_failure(&mut text, alloc, program, failure)?;
-    }
+    let mut text = end_line(alloc, committed, failures.len())?;
+    push_failures(&mut text, alloc, program, first_20(failures))?;
     Ok(text)
 }
 
@@ -137,6 +179,7 @@ pub fn spent_text(alloc: Global, committed: usize) -> Result<Bytes, AllocError>
 {
     let mut text = Bytes::from_slice(alloc, b"spent: ")?;
     push_number(&mut text, alloc, committed as u64)?;
-    text.extend_from_slice(b" committed\n")?;
+    text.extend_from_slice(b" committed")?;
+    text.push(b'\n')?;
     Ok(text)
 }

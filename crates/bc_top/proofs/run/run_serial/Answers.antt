@@ -10,8 +10,8 @@ loop-committed-init c = record {
   under_way = rw (c.new.ensures, c.new-2.ensures) (starts c.args.program.now c.args.limit c.requires.small);
 }
 
-pub returns-then-is_over : goal.returns-then-is_over
-returns-then-is_over c =
+pub returns-then-is_over-clause-run : goal.returns-then-is_over-clause-run
+returns-then-is_over-clause-run c =
     over_ok c.args.program.now c.args.limit c.loop-committed._committed _ c.loop-committed.course c.idle.result c.requires.small c.tasks-tasks.ensures c.loop-committed.invariant.under_way
         c.if-is_over.ensures.over c.idle.ensures.history c.idle.ensures.stop c.idle.ensures.output c.idle.ensures.failures
 
@@ -26,16 +26,16 @@ loop-committed-preserved c =
           (under.in_turn (subst (λ ts. 0 < length ts) c.tasks-tasks.ensures on.1)) under (subst (λ ts. Commits ts c.loop-committed.course c.commit_turn.new.course) c.tasks-tasks.ensures c.in_ok-commit_turn.ensures);
     }
 
-pub returns-then-is_over-2 : goal.returns-then-is_over-2
-returns-then-is_over-2 c =
+pub returns-then-is_over-2-clause-run : goal.returns-then-is_over-2-clause-run
+returns-then-is_over-2-clause-run c =
     over_ok c.args.program.now c.args.limit c.loop-committed._committed _ c.loop-committed.course c.idle-then-is_over-2.result c.requires.small c.tasks-tasks.ensures c.loop-committed.invariant.under_way
         c.if-is_over-2.ensures.over c.idle-then-is_over-2.ensures.history c.idle-then-is_over-2.ensures.stop c.idle-then-is_over-2.ensures.output c.idle-then-is_over-2.ensures.failures
 
 pub at_limit-requires-clause-short : goal.at_limit-requires-clause-short
 at_limit-requires-clause-short c = rw c.tasks-tasks.ensures (all_short c.args.program.now.tasks c.requires.small)
 
-pub returns : goal.returns
-returns c =
+pub returns-clause-run : goal.returns-clause-run
+returns-clause-run c =
     let P = c.args.program.now in
     let on = c.if-is_over-2.ensures.on in
     let under = c.loop-committed.invariant.under_way in
