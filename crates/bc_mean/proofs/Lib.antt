@@ -1,3 +1,4 @@
+pub mod Course
 pub mod ExampleLimits
 pub mod ExampleRuns
 pub mod ExampleStores

@@ -5,4 +5,5 @@ pub mod Execute
 pub mod Changes
 pub mod Outcome
 pub mod Serial
+pub mod Laws
 pub mod Examples
