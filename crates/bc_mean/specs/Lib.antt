@@ -5,5 +5,6 @@ pub mod Execute
 pub mod Changes
 pub mod Outcome
 pub mod Serial
+pub mod Orders
 pub mod Laws
 pub mod Examples
