@@ -5,3 +5,4 @@ pub mod ExampleRuns
 pub mod ExampleStores
 pub mod Lists
 pub mod Orders
+pub mod Sound

@@ -39,10 +39,10 @@ each_weaker P Q f [] h = tt
 each_weaker P Q f (x ∷ xs) h = (f x h.0, each_weaker P Q f xs h.1)
 
 -- each of xs stands in the relation to each of ys
-abbrev Across : {X : Type 0} → (X → X → Type 0) → List X → List X → Type 0
+abbrev pub Across : {X : Type 0} → (X → X → Type 0) → List X → List X → Type 0
 Across R xs ys = AllByRecursion (λ x. AllByRecursion (R x) ys) xs
 
-across : {X : Type 0} (R : X → X → Type 0) (A B : X → Type 0) → ((x y : X) → A x → B y → R x y) → (xs ys : List X) → AllByRecursion A xs → AllByRecursion B ys → Across R xs ys
+pub across : {X : Type 0} (R : X → X → Type 0) (A B : X → Type 0) → ((x y : X) → A x → B y → R x y) → (xs ys : List X) → AllByRecursion A xs → AllByRecursion B ys → Across R xs ys
 across R A B f [] ys a b = tt
 across R A B f (x ∷ xs) ys a b = (each_weaker B (R x) (λ y h. f x y a.0 h) ys b, across R A B f xs ys a.1 b)
 

@@ -1,5 +1,5 @@
 -- The order of invocations is strict and total, and an ascending list is determined by its members.
-use Rattle.std.proofs.Common.{◌≡◌, ℕ, ◌⊎◌, inl, inr, Bool, true, false, cond, ◌&&◌, ◌==◌, List, [], ◌∷◌, filter, refl, sym, ap, ap₂, ◌∙◌, subst, arith}
+use Rattle.std.proofs.Common.{◌≡◌, ℕ, ◌⊎◌, inl, inr, Bool, true, false, cond, ◌&&◌, ◌||◌, ◌==◌, List, [], ◌∷◌, ◌++◌, filter, refl, sym, ap, ap₂, ◌∙◌, subst, arith}
 use Rattle.std.specs.Prelude.{nat_lt}
 use Rattle.std.specs.declared.cmp.Ordering.{Ordering}
 use Rattle.std.specs.declared.cmp.Ordering.TheVariants.{Less, Equal, Greater}
@@ -177,3 +177,7 @@ filter_from p (w ∷ ws) v h k = elim (listed_cases w ws v h) [
 
 pub listed_filter : (p : Invocation → Bool) (ws : List Invocation) (v : Invocation) → listed (filter p ws) v ≡ (listed ws v && p v)
 listed_filter p ws v = both_ways (listed (filter p ws) v) (listed ws v && p v) (filter_to p ws v) (λ h. let q = and_parts (listed ws v) (p v) h in filter_from p ws v q.0 q.1)
+
+pub listed_append : (vs ws : List Invocation) (v : Invocation) → listed (vs ++ ws) v ≡ (listed vs v || listed ws v)
+listed_append [] ws v = refl
+listed_append (u ∷ us) ws v = let h = listed_append us ws v in grind (arith, h)

@@ -6,7 +6,8 @@ use Rattle.bc_data.specs.declared.run.Stop.{Stop}
 use Rattle.bc_mean.specs.declared.plain.Plain.{Plain}
 use Rattle.bc_mean.specs.Enabled.{is_enabled, all_enabled}
 use Rattle.bc_mean.specs.Orders.{precedes, IsAscending}
-use Rattle.bc_mean.specs.Serial.{Course, EndsAs, listed, replay}
+use Rattle.bc_mean.specs.Serial.{Course, EndsAs, course_at_start, listed, replay, serial_step}
+use Rattle.bc_mean.specs.Sound.{IsSound}
 
 -- Invocations have a strict total order.
 pub record StrictlyOrdered : Type 0 where
@@ -49,3 +50,16 @@ EndsOnce =
     → EndsAs P limit from r s
     → EndsAs P limit from q t
     → (r ≡ q) × (s ≡ t)
+
+-- A run is sound at its start, after each step, and so at its end.
+pub record KeepsSound : Type 0 where
+  pub start : (P : Parts) (input : List ℕ) (limit : ℕ) → IsSound P input limit (course_at_start P input)
+  pub step :
+      (P : Parts) (input : List ℕ) (limit : ℕ) (r : Course)
+      → IsSound P input limit r
+      → IsSound P input limit (serial_step P limit r)
+  pub end :
+      (P : Parts) (input : List ℕ) (limit : ℕ) (from r : Course) (s : Stop)
+      → IsSound P input limit from
+      → EndsAs P limit from r s
+      → IsSound P input limit r

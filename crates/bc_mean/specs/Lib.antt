@@ -6,5 +6,6 @@ pub mod Changes
 pub mod Outcome
 pub mod Serial
 pub mod Orders
+pub mod Sound
 pub mod Laws
 pub mod Examples

@@ -1,6 +1,6 @@
 // The laws of the definitions.
 
-ghost use Rattle.bc_mean.specs.Laws.{StrictlyOrdered, AllAscending, AllExact, OneAscending, NamedAlone, ReplayPrefix, EndsOnce};
+ghost use Rattle.bc_mean.specs.Laws.{StrictlyOrdered, AllAscending, AllExact, OneAscending, NamedAlone, ReplayPrefix, EndsOnce, KeepsSound};
 
 /// Invocations have a strict total order.
 pub fn strictly_ordered()
@@ -35,4 +35,9 @@ pub fn replay_prefix()
 /// A run ends in one way, if at all.
 pub fn ends_once()
     ensures { EndsOnce }
+{}
+
+/// A run is sound at its start, after each step, and so at its end.
+pub fn keeps_sound()
+    ensures { KeepsSound }
 {}
