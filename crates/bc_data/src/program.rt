@@ -52,7 +52,7 @@ pub struct Method {
 }
 
 /// A task. `variables` has the types of the tag variables that its parameters bind; `locals` counts the slots
-/// and `tags` the tag variables of its body.
+/// and `tags` the tag variables, those that its parameters bind among them.
 #[derive(Drop)]
 pub struct Task {
     pub name: Bytes,

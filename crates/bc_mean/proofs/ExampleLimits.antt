@@ -2,7 +2,7 @@
 use Rattle.std.proofs.Common.{refl, ◌≡◌, ℕ, ◌+◌, ◌<◌, ◌≤◌, true, false, List, ◌++◌, length, nat_lt, ◌∙◌, arith, length-append}
 use Rattle.std.proofs.lemmas.Bool.{le-leb, le-ltb, lt-leb, lt-ltb}
 use Rattle.std.specs.Global.{Global}
-use Rattle.std.specs.Prelude.{nat_le, None, Option, Some}
+use Rattle.std.specs.Prelude.{if◌then◌else◌, nat_le, None, Option, Some}
 use Rattle.bc_data.specs.declared.run.Changes.{Changes}
 use Rattle.bc_data.specs.declared.run.FaultKind.{FaultKind}
 use Rattle.bc_data.specs.declared.run.FaultKind.TheVariants as fault
@@ -11,22 +11,22 @@ use Rattle.bc_data.specs.declared.run.Place.{Place}
 use Rattle.bc_mean.specs.declared.plain.Plain.{Plain}
 use Rattle.bc_mean.specs.Enabled.{all_enabled}
 use Rattle.bc_mean.specs.Store.{cells_in}
-use Rattle.bc_mean.specs.Work.{choose}
 use Rattle.bc_mean.specs.Examples.{ExitExamples, OutputExamples, RoomExamples, TextExamples}
 
-within : {X : Type 0} (n a : ℕ) (x y : X) → a ≤ n → choose (nat_lt n a) x y ≡ y
+within : {X : Type 0} (n a : ℕ) (x y : X) → a ≤ n → (if nat_lt n a then x else y) ≡ y
 within n a x y h = rw (le-ltb n a h) refl
 
-past : {X : Type 0} (n a : ℕ) (x y : X) → n < a → choose (nat_lt n a) x y ≡ x
+past : {X : Type 0} (n a : ℕ) (x y : X) → n < a → (if nat_lt n a then x else y) ≡ x
 past n a x y h = rw (lt-ltb n a h) refl
 
 -- the tests of room on the four sums
 abbrev room_of : ℕ → ℕ → ℕ → ℕ → Option FaultKind
 room_of objects cells tags output =
-    choose (nat_lt 65536 objects) (Some fault.Objects) (
-    choose (nat_lt 4194304 cells) (Some fault.Cells) (
-    choose (nat_lt 65536 tags) (Some fault.Tags) (
-    choose (nat_lt 16777216 output) (Some fault.Output) None)))
+    if nat_lt 65536 objects then Some fault.Objects
+    else if nat_lt 4194304 cells then Some fault.Cells
+    else if nat_lt 65536 tags then Some fault.Tags
+    else if nat_lt 16777216 output then Some fault.Output
+    else None
 
 full_room : (a b c d : ℕ) → a ≡ 65536 → b ≡ 4194304 → c ≡ 65536 → d ≡ 16777216 → room_of a b c d ≡ None
 full_room a b c d ea eb ec ed = rw (ea, eb, ec, ed) refl

@@ -71,6 +71,7 @@ enabled_hold alloc = record {
   wrong_type = refl;
   both_orders = refl;
   not_itself = refl;
+  instance_not_there = refl;
   one_instance_twice = refl;
   two_instances = refl;
 }

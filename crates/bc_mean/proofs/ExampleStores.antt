@@ -1,7 +1,9 @@
 -- The worked examples of pending lists, of changes and of stores that fit hold.
 use Rattle.std.proofs.Common.{refl, ◌≡◌, ℕ, ◌<◌, ◌≤◌, ◌^◌, ◌∙◌, ap, sym, subst, List, [], ◌∷◌, length, arith, lit<, lit≤}
 use Rattle.std.specs.Global.{Global}
-use Rattle.std.specs.Prelude.{Option, Some, None, codes, pos, slice_get}
+use Rattle.std.specs.Prelude.{All, FitsSigned, Option, Some, None, codes, get_or, pos, slice_get}
+use Rattle.std.specs.Int.{w32}
+use Rattle.std.proofs.lemmas.Int.{fits_signed_from_abs}
 use Rattle.std.proofs.lemmas.List.{length-map}
 use Rattle.std.proofs.lemmas.List.Elements.{All-cons, All-map, All-nil}
 use Rattle.bc_data.specs.Program.{Parts}
@@ -43,23 +45,26 @@ startup_fits alloc P S array mask e f k m = record {
   different_tags = λ i j d a b. absurd (omega arith);
 }
 
-ints_fit : (S : Plain) (input : List ℕ) → length input ≤ 65536 → IsArray S shape.Int (input_array input)
-ints_fit S input h = record {
-  cells = All-map (HasShape S shape.Int) (λ b. value.Int (pos b)) input (λ k d l. tt);
+byte_fits : (b : ℕ) → b < 256 → FitsSigned w32 (pos b)
+byte_fits b h = fits_signed_from_abs w32 (pos b) (omega arith)
+
+ints_fit : (S : Plain) (input : List ℕ) → All (λ b. b < 256) input → length input ≤ 65536 → IsArray S shape.Int (input_array input)
+ints_fit S input bytes h = record {
+  cells = All-map (HasShape S shape.Int) (λ b. value.Int (pos b)) input (λ k d l. byte_fits (get_or input k d) (bytes k d l));
   short = simp length-map h;
   flags = refl;
   tags = refl;
 }
 
-start_fits : (alloc : Global) (tasks : List Task) (input : List ℕ) → length input ≤ 65536 → Fits (program alloc tasks) (start_store input)
-start_fits alloc tasks input h =
+start_fits : (alloc : Global) (tasks : List Task) (input : List ℕ) → All (λ b. b < 256) input → length input ≤ 65536 → Fits (program alloc tasks) (start_store input)
+start_fits alloc tasks input bytes h =
     let P = program alloc tasks in
     let S = start_store input in
     let fits : Body → Type 0 = λ b. FitsAs P S b.kind b in
     record {
       bodies =
           All-cons fits startup_object (input_array input ∷ []) (startup_fits alloc P S (input_array input) 1 refl refl refl (lit< tt))
-          (All-cons fits (input_array input) [] (ints_fit S input h) (All-nil fits));
+          (All-cons fits (input_array input) [] (ints_fit S input bytes h) (All-nil fits));
       types = All-nil _;
       objects = lit≤ tt;
       cells = simp length-map (omega arith);
@@ -76,7 +81,7 @@ tagged_fits alloc =
     record {
       bodies =
           All-cons fits cleared_startup (input_array [] ∷ b ∷ []) (startup_fits alloc P S (input_array []) 0 refl refl refl (lit< tt))
-          (All-cons fits (input_array []) (b ∷ []) (ints_fit S [] (lit≤ tt))
+          (All-cons fits (input_array []) (b ∷ []) (ints_fit S [] (All-nil _) (lit≤ tt))
           (All-cons fits b []
           (record {
             class = flagged_class alloc (codes "L");
@@ -100,6 +105,9 @@ from_some e = cc
 
 no_some : {A : Type 0} {x : A} → ◌≡◌ {A = Option A} None (Some x) → ⊥
 no_some e = cc
+
+too_large : FitsSigned w32 (pos 2147483648) → ⊥
+too_large h = absurd (omega (arith, h))
 
 not_ints : (c : ℕ) → kind.Ints ≡ kind.Class c → ⊥
 not_ints c e = cc
@@ -129,6 +137,9 @@ fits_hold alloc = record {
   cell_too_many = λ h.
       let o = object_of alloc _ h in
       subst (λ (c : Class). HaveShapes (with_object (record { kind = kind.Class 1; cells = value.Null ∷ []; flags = 1; tags = [] })) c.fields.items (value.Null ∷ [])) (sym (from_some o.declared)) o.cells;
+  int_too_large = λ h.
+      let o = object_of alloc _ h in
+      too_large (o.cells 0 value.Null (lit< tt));
   wrong_element = λ h.
       let o = object_of alloc _ h in
       let k = o.1.cells 0 value.Null (lit< tt) in

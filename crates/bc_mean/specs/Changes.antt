@@ -1,5 +1,5 @@
 -- The changes of a run, and applying them to a store.
-use Rattle.std.specs.Prelude.{ℕ, ◌+◌, Bool, true, false, not, ◌&&◌, ◌==◌, nat_lt, List, [], ◌∷◌, ◌++◌, length, map, filter, slice_get, slice_set, Option, Some, None}
+use Rattle.std.specs.Prelude.{ℕ, ◌+◌, Bool, true, false, not, if◌then◌else◌, ◌&&◌, ◌==◌, nat_lt, List, [], ◌∷◌, ◌++◌, length, map, filter, slice_get, slice_set, Option, Some, None}
 use Rattle.std.specs.List.{range_with_len, filter_map}
 use Rattle.std.specs.Cmp.Lexicographic.{pointwise}
 use Rattle.std.specs.Ordering.{int_eq}
@@ -16,11 +16,11 @@ use Rattle.bc_data.specs.declared.run.FaultKind.{FaultKind}
 use Rattle.bc_data.specs.declared.run.FaultKind.TheVariants as fault
 use Rattle.bc_mean.specs.declared.plain.Plain.{Plain}
 use Rattle.bc_mean.specs.Store.{cells_in}
-use Rattle.bc_mean.specs.Work.{Work, newest, choose}
+use Rattle.bc_mean.specs.Work.{Work, newest}
 
 abbrev pub same_value : Value → Value → Bool
 same_value (value.Int m) (value.Int n) = int_eq m n
-same_value (value.Bool a) (value.Bool b) = choose a b (not b)
+same_value (value.Bool a) (value.Bool b) = if a then b else not b
 same_value value.Null value.Null = true
 same_value (value.Old m) (value.Old n) = m == n
 same_value (value.New m) (value.New n) = m == n
@@ -44,7 +44,7 @@ same_body a b = same_kind a.kind b.kind && pointwise same_value a.cells b.cells 
 -- an object of the store whose newest copy differs from its body
 abbrev pub written_of : Work → ℕ → Option Body → Option Written
 written_of w id None = None
-written_of w id (Some b) = choose (same_body b (newest w.changed id b)) None (Some (record { id = id; body = newest w.changed id b }))
+written_of w id (Some b) = if same_body b (newest w.changed id b) then None else Some (record { id = id; body = newest w.changed id b })
 
 -- The changes of a run in a store: the bodies that now differ, ascending, the new bodies, the types of the new
 -- instances, and the text.
@@ -94,7 +94,8 @@ changed_objects S T = filter (λ id. differs (slice_get S.bodies id) (slice_get 
 -- the first sum that would pass its limit
 abbrev pub fault_of_room : Plain → Changes → Option FaultKind
 fault_of_room S c =
-    choose (nat_lt 65536 (length S.bodies + length c.made)) (Some fault.Objects) (
-    choose (nat_lt 4194304 (cells_in S.bodies + cells_in c.made)) (Some fault.Cells) (
-    choose (nat_lt 65536 (length S.tags + length c.tags)) (Some fault.Tags) (
-    choose (nat_lt 16777216 (length S.output + length c.text)) (Some fault.Output) None)))
+    if nat_lt 65536 (length S.bodies + length c.made) then Some fault.Objects
+    else if nat_lt 4194304 (cells_in S.bodies + cells_in c.made) then Some fault.Cells
+    else if nat_lt 65536 (length S.tags + length c.tags) then Some fault.Tags
+    else if nat_lt 16777216 (length S.output + length c.text) then Some fault.Output
+    else None

@@ -1,5 +1,5 @@
 -- When an invocation is enabled, and the list of all that are.
-use Rattle.std.specs.Prelude.{◌≡◌, ℕ, zero, suc, Bool, true, false, not, ◌&&◌, ◌==◌, List, [], ◌∷◌, length, map, filter, slice_get, Option, Some, None}
+use Rattle.std.specs.Prelude.{◌≡◌, ℕ, zero, suc, Bool, true, false, not, ◌&&◌, ◌==◌, nat_lt, List, [], ◌∷◌, length, map, filter, slice_get, Option, Some, None}
 use Rattle.std.specs.List.{range_with_len, flat_map, list_all, list_any}
 use Rattle.bc_data.specs.Program.{Parts}
 use Rattle.bc_data.specs.Guard.{guard_truth}
@@ -52,10 +52,13 @@ abbrev pub are_different : List ℕ → Bool
 are_different [] = true
 are_different (id ∷ ids) = not (list_any (λ other. other == id) ids) && are_different ids
 
+-- Each instance that is named is there, also one that no parameter binds, so that the enabled invocations are those listed
+-- below for every value of a program.
 abbrev pub is_enabled : Parts → Plain → Invocation → Bool
 is_enabled P S v =
     is_some_and (slice_get P.tasks v.task) (λ t.
-    (length v.tags == length t.variables.items) && take_all S t v.tags t.params.items v.objects && are_different v.objects)
+    (length v.tags == length t.variables.items) && take_all S t v.tags t.params.items v.objects && are_different v.objects
+    && list_all (λ n. nat_lt n (length S.tags)) v.tags)
 
 abbrev pub IsEnabled : Parts → Plain → Invocation → Type 0
 IsEnabled P S v = is_enabled P S v ≡ true

@@ -1,5 +1,5 @@
 -- Worked examples of the meaning: small programs with their whole runs, and the edges of its limits.
-use Rattle.std.specs.Prelude.{◌≡◌, ℕ, ◌+◌, ◌<◌, ◌≤◌, ◌^◌, false, true, List, [], ◌∷◌, ◌++◌, length, None, Some, codes}
+use Rattle.std.specs.Prelude.{◌≡◌, ℕ, ◌+◌, ◌<◌, ◌≤◌, ◌^◌, false, true, List, [], ◌∷◌, ◌++◌, length, All, None, Some, codes}
 use Rattle.std.specs.Global.{Vec, Global}
 use Rattle.std.proofs.Common.{refl, lit<, le_refl}
 use denote.RawPtr.{null_ptr}
@@ -214,6 +214,10 @@ two_alike = store_of (flagged 1 [] ∷ flagged 1 [] ∷ []) []
 abbrev pub two_variables : Global → Parts
 two_variables alloc = tagged_program alloc (tagged_param alloc 1 (0 ∷ 1 ∷ []) (lit< tt) ∷ []) (lit< tt) (0 ∷ 0 ∷ []) (lit< tt)
 
+-- a variable that no parameter binds
+abbrev pub unbound_variable : Global → Parts
+unbound_variable alloc = tagged_program alloc (tagged_param alloc 1 [] (lit< tt) ∷ []) (lit< tt) (0 ∷ []) (lit< tt)
+
 -- Enabled are the tuples of different objects whose flags meet the guards and that share the instances, ascending.
 pub record EnabledExamples (alloc : Global) : Type 0 where
   pub negated_guard : all_enabled (wants_cleared alloc) (start_store []) ≡ []
@@ -223,6 +227,7 @@ pub record EnabledExamples (alloc : Global) : Type 0 where
   pub wrong_type : all_enabled (joins alloc) (record two_joined { tags = 1 ∷ 1 ∷ [] }) ≡ []
   pub both_orders : all_enabled (pairs alloc) two_alike ≡ task_on (2 ∷ 3 ∷ []) [] ∷ task_on (3 ∷ 2 ∷ []) [] ∷ []
   pub not_itself : is_enabled (pairs alloc) two_alike (task_on (2 ∷ 2 ∷ []) []) ≡ false
+  pub instance_not_there : is_enabled (unbound_variable alloc) (store_of (flagged 1 [] ∷ []) []) (task_on (2 ∷ []) (0 ∷ [])) ≡ false
   pub one_instance_twice : all_enabled (two_variables alloc) (store_of (flagged 1 (tag.Old 0 ∷ []) ∷ []) (0 ∷ [])) ≡ task_on (2 ∷ []) (0 ∷ 0 ∷ []) ∷ []
   pub two_instances :
       all_enabled (two_variables alloc) (store_of (flagged 1 (tag.Old 0 ∷ tag.Old 1 ∷ []) ∷ []) (0 ∷ 0 ∷ []))
@@ -375,15 +380,17 @@ pub record ChangeExamples : Type 0 where
 abbrev pub with_object : Body → Plain
 with_object b = store_of (b ∷ []) (0 ∷ [])
 
--- The store at the start fits each program. An object with a flag or an instance too many, or one instance twice, does not.
+-- The store at the start fits each program. An object with a flag or an instance too many, or one instance
+-- twice, does not, and an array of a number that has no 32 bits does not.
 pub record FitExamples (alloc : Global) : Type 0 where
-  pub start : (tasks : List Task) (input : List ℕ) → length input ≤ 65536 → Fits (program alloc tasks) (start_store input)
+  pub start : (tasks : List Task) (input : List ℕ) → All (λ b. b < 256) input → length input ≤ 65536 → Fits (program alloc tasks) (start_store input)
   pub tagged : Fits (joins alloc) (with_object (flagged 1 (tag.Old 0 ∷ [])))
   pub unknown_flag : Fits (joins alloc) (with_object (record { kind = kind.Class 1; cells = []; flags = 2; tags = [] })) → ⊥
   pub unknown_instance : Fits (joins alloc) (with_object (flagged 1 (tag.Old 1 ∷ []))) → ⊥
   pub one_instance_twice : Fits (joins alloc) (with_object (flagged 1 (tag.Old 0 ∷ tag.Old 0 ∷ []))) → ⊥
   pub unknown_class : Fits (joins alloc) (with_object (flagged 3 [])) → ⊥
   pub cell_too_many : Fits (joins alloc) (with_object (record { kind = kind.Class 1; cells = value.Null ∷ []; flags = 1; tags = [] })) → ⊥
+  pub int_too_large : Fits (joins alloc) (with_object (input_array (2147483648 ∷ []))) → ⊥
   pub wrong_element : Fits (joins alloc) (with_object (record { kind = kind.Objects 1; cells = value.Old 1 ∷ []; flags = 0; tags = [] })) → ⊥
 
 pub record Examples : Type 0 where

@@ -5,4 +5,7 @@ pub mod Execute
 pub mod Changes
 pub mod Outcome
 pub mod Serial
+pub mod Orders
+pub mod Sound
+pub mod Laws
 pub mod Examples

@@ -11,7 +11,7 @@ use Rattle.bc_data.specs.declared.run.Ran.{Ran}
 use Rattle.bc_data.specs.declared.run.Ran.TheVariants as ran
 use Rattle.bc_data.specs.declared.run.Outcome.{Outcome}
 use Rattle.bc_mean.specs.declared.plain.Plain.{Plain}
-use Rattle.bc_mean.specs.Work.{Work, Got, Gives, Stops, Stop, Faulted, Missing, Wrong, look_of}
+use Rattle.bc_mean.specs.Work.{Work, Got, Gives, Stops, Halt, Faulted, Missing, Wrong, look_of}
 use Rattle.bc_mean.specs.Execute.{Flow, execute_all}
 use Rattle.bc_mean.specs.Changes.{changes_between, fault_of_room}
 
@@ -19,16 +19,16 @@ use Rattle.bc_mean.specs.Changes.{changes_between, fault_of_room}
 abbrev pub work_at_start : Invocation → Work
 work_at_start v = record { changed = []; made = []; instances = []; text = []; touched = v.objects }
 
--- A stop that never comes for an accepted program is shown as some fault.
-abbrev pub fault_of : Stop → Fault
+-- A halt that never comes for an accepted program is shown as some fault.
+abbrev pub fault_of : Halt → Fault
 fault_of (Faulted f) = f
 fault_of (Missing id) = record { kind = fault.Null; at = record { line = 0; column = 0 } }
 fault_of Wrong = record { kind = fault.Null; at = record { line = 0; column = 0 } }
 
--- A body that runs off its end exits too. A stop leaves nothing but its fault.
+-- A body that runs off its end exits too. A halt leaves nothing but its fault.
 abbrev pub ending : Plain → Got Flow → Outcome
 ending S (Gives flow w) = record { ran = ran.Commit (changes_between S w); touched = w.touched }
-ending S (Stops s w) = record { ran = ran.Faulted (fault_of s); touched = w.touched }
+ending S (Stops h w) = record { ran = ran.Faulted (fault_of h); touched = w.touched }
 
 abbrev pub body_run : Plain → Option Task → Invocation → Got Flow
 body_run S None v = Stops Wrong (work_at_start v)

@@ -1,5 +1,5 @@
 -- Replay of a history, the pending order, and the serial run.
-use Rattle.std.specs.Prelude.{◌≡◌, ℕ, zero, suc, Bool, not, ◌&&◌, ◌==◌, nat_eq, nat_lt, List, [], ◌∷◌, ◌++◌, length, filter, All, Option, Some, None, option_and_then}
+use Rattle.std.specs.Prelude.{◌≡◌, ℕ, zero, suc, Bool, not, if◌then◌else◌, ◌&&◌, ◌==◌, nat_eq, nat_lt, List, [], ◌∷◌, ◌++◌, length, filter, All, Option, Some, None, option_and_then}
 use Rattle.std.specs.List.{list_any}
 use Rattle.std.specs.Cmp.Lexicographic.{pointwise}
 use Rattle.bc_data.specs.Program.{Parts}
@@ -12,7 +12,6 @@ use Rattle.bc_data.specs.declared.run.Stop.TheVariants as stop
 use Rattle.bc_mean.specs.declared.plain.Plain.{Plain}
 use Rattle.bc_mean.specs.Store.{start_store}
 use Rattle.bc_mean.specs.Enabled.{is_enabled, all_enabled}
-use Rattle.bc_mean.specs.Work.{choose}
 use Rattle.bc_mean.specs.Changes.{apply_changes, changed_objects}
 use Rattle.bc_mean.specs.Outcome.{outcome}
 
@@ -20,16 +19,17 @@ use Rattle.bc_mean.specs.Outcome.{outcome}
 abbrev pub is_crowded : Parts → Plain → Bool
 is_crowded P S = nat_lt 262144 (length (all_enabled P S))
 
--- the store after a commit, if the invocation commits and does not crowd the store
-abbrev pub if_room : Parts → Plain → Option Plain
-if_room P T = choose (is_crowded P T) None (Some T)
+-- a store, unless it is crowded
+abbrev pub unless_crowded : Parts → Plain → Option Plain
+unless_crowded P T = if is_crowded P T then None else Some T
 
 abbrev pub after_ran : Parts → Plain → Ran → Option Plain
-after_ran P S (ran.Commit c) = if_room P (apply_changes S c)
+after_ran P S (ran.Commit c) = unless_crowded P (apply_changes S c)
 after_ran P S (ran.Faulted f) = None
 
+-- the store after a commit, if the invocation is enabled, commits and does not leave the store crowded
 abbrev pub after_commit : Parts → Plain → Invocation → Option Plain
-after_commit P S v = choose (is_enabled P S v) (after_ran P S (outcome P S v).ran) None
+after_commit P S v = if is_enabled P S v then after_ran P S (outcome P S v).ran else None
 
 -- a history from a store on
 abbrev pub replay_from : Parts → Plain → List Invocation → Option Plain
@@ -97,14 +97,16 @@ committed P T v rest r =
     let left = filter (is_untouched (changed_objects r.store T)) r.failures in
     record { store = T; history = r.history ++ v ∷ []; pending = pending_after P T left [] rest; failures = left; ended = None }
 
+-- The pending list plays no part any more: where no commit is left, the invocation that would have run still heads it.
 abbrev pub stopped : Stop → Course → Course
 stopped s r = record r { ended = Some s }
 
 -- A commit: the limit is tested first, then how many invocations it would leave enabled.
 abbrev pub try_commit : Parts → ℕ → Plain → Invocation → List Invocation → Course → Course
 try_commit P limit T v rest r =
-    choose (length r.history == limit) (stopped (stop.Spent v) r) (
-    choose (is_crowded P T) (stopped (stop.Crowded v) r) (committed P T v rest r))
+    if length r.history == limit then stopped (stop.Spent v) r
+    else if is_crowded P T then stopped (stop.Crowded v) r
+    else committed P T v rest r
 
 abbrev pub step_ran : Parts → ℕ → Ran → List ℕ → Invocation → List Invocation → Course → Course
 step_ran P limit (ran.Faulted f) touched v rest r = record r { pending = rest; failures = r.failures ++ record { v = v; fault = f; touched = touched } ∷ [] }
@@ -127,8 +129,13 @@ abbrev pub serial_steps : Parts → ℕ → ℕ → Course → Course
 serial_steps P limit zero r = r
 serial_steps P limit (suc n) r = serial_steps P limit n (serial_step P limit r)
 
--- The serial run has ended so. A run that has ended stays as it is, so there is at most one such end.
-pub record IsSerialRun (P : Parts) (input : List ℕ) (limit : ℕ) (r : Course) (s : Stop) : Type 0 where
+-- The run that goes on from a course ends in r, by this stop. A run that has ended stays as it is, so there is at most
+-- one such end.
+pub record EndsAs (P : Parts) (limit : ℕ) (from r : Course) (s : Stop) : Type 0 where
   pub steps : ℕ
-  pub reached : serial_steps P limit steps (course_at_start P input) ≡ r
+  pub reached : serial_steps P limit steps from ≡ r
   pub ended : r.ended ≡ Some s
+
+-- the serial run of a program on an input, with at most this many commits
+abbrev pub IsSerialRun : Parts → List ℕ → ℕ → Course → Stop → Type 0
+IsSerialRun P input limit r s = EndsAs P limit (course_at_start P input) r s

@@ -1,5 +1,6 @@
 -- Stores: the one at the start, and those that fit a program.
-use Rattle.std.specs.Prelude.{◌≡◌, ◌≢◌, ℕ, pos, ◌<◌, ◌≤◌, ◌^◌, List, [], ◌∷◌, length, map, sum_by, slice_get, Some, All, AllPairs}
+use Rattle.std.specs.Prelude.{◌≡◌, ◌≢◌, ℕ, pos, ◌<◌, ◌≤◌, ◌^◌, List, [], ◌∷◌, length, map, sum_by, slice_get, Some, All, AllPairs, FitsSigned}
+use Rattle.std.specs.Int.{w32}
 use Rattle.bc_data.specs.Program.{Parts}
 use Rattle.bc_data.specs.declared.program.Class.{Class}
 use Rattle.bc_data.specs.declared.program.Field.{Field}
@@ -41,8 +42,9 @@ IsReference S k (value.New id) = ⊥
 IsReference S k (value.Int n) = ⊥
 IsReference S k (value.Bool b) = ⊥
 
+-- a number of 32 bits in two's complement
 abbrev pub IsInt : Value → Type 0
-IsInt (value.Int n) = Unit {0}
+IsInt (value.Int n) = FitsSigned w32 n
 IsInt _ = ⊥
 
 abbrev pub IsBool : Value → Type 0

@@ -1,5 +1,5 @@
 -- The work of one invocation, and the small steps on it.
-use Rattle.std.specs.Prelude.{ℕ, ◌+◌, ◌-◌, ◌^◌, Bool, true, false, ◌==◌, nat_le, List, [], ◌∷◌, ◌++◌, length, slice_get, Option, Some, None, bit_and, bit_or}
+use Rattle.std.specs.Prelude.{ℕ, ◌+◌, ◌-◌, ◌^◌, Bool, true, false, if◌then◌else◌, ◌==◌, nat_le, List, [], ◌∷◌, ◌++◌, length, slice_get, Option, Some, None, bit_and, bit_or}
 use Rattle.bc_data.specs.declared.run.Body.{Body}
 use Rattle.bc_data.specs.declared.run.Written.{Written}
 use Rattle.bc_data.specs.declared.run.Fault.{Fault}
@@ -7,10 +7,6 @@ use Rattle.bc_data.specs.declared.run.FaultKind.{FaultKind}
 use Rattle.bc_data.specs.declared.run.FaultKind.TheVariants as fault
 use Rattle.bc_data.specs.declared.run.Place.{Place}
 use Rattle.bc_mean.specs.declared.plain.Plain.{Plain}
-
-abbrev pub choose : {A : Type 0} → Bool → A → A → A
-choose true a b = a
-choose false a b = b
 
 -- the bodies that are known, by number: those of a whole store, or those given so far
 abbrev pub Look : Type 0
@@ -30,19 +26,19 @@ pub record Work : Type 0 where
 
 -- Why a run stops before its end: a fault; or, which never comes in a run of an accepted program over a store that
 -- fits, an object whose body is not known, or a form that has no meaning where it stands.
-pub data Stop : Type 0 where
-  Faulted : (f : Fault) → Stop
-  Missing : (id : ℕ) → Stop
-  Wrong : Stop
+pub data Halt : Type 0 where
+  Faulted : (f : Fault) → Halt
+  Missing : (id : ℕ) → Halt
+  Wrong : Halt
 
--- what something comes to: a value and the work after it, or a stop and the work up to it
+-- what something comes to: a value and the work after it, or a halt and the work up to it
 pub data Got (A : Type 0) : Type 0 where
   Gives : (x : A) (w : Work) → Got A
-  Stops : (s : Stop) (w : Work) → Got A
+  Stops : (h : Halt) (w : Work) → Got A
 
 abbrev pub and_then : {A B : Type 0} → Got A → (A → Work → Got B) → Got B
 and_then (Gives x w) go = go x w
-and_then (Stops s w) go = Stops s w
+and_then (Stops h w) go = Stops h w
 
 abbrev pub faults : {A : Type 0} → FaultKind → Place → Work → Got A
 faults k at w = Stops (Faulted (record { kind = k; at = at })) w
@@ -50,12 +46,12 @@ faults k at w = Stops (Faulted (record { kind = k; at = at })) w
 -- the newest copy of an object, or the body that it had
 abbrev pub newest : List Written → ℕ → Body → Body
 newest [] id b = b
-newest (c ∷ cs) id b = choose (c.id == id) c.body (newest cs id b)
+newest (c ∷ cs) id b = if c.id == id then c.body else newest cs id b
 
 -- an object's copy takes the place of the one before, or stands at the end
 abbrev pub put : ℕ → Body → List Written → List Written
 put id b [] = record { id = id; body = b } ∷ []
-put id b (c ∷ cs) = choose (c.id == id) (record { id = id; body = b } ∷ cs) (c ∷ put id b cs)
+put id b (c ∷ cs) = if c.id == id then record { id = id; body = b } ∷ cs else c ∷ put id b cs
 
 -- an object as the invocation sees it
 abbrev pub seen : ℕ → Option Body → Work → Got Written
@@ -73,7 +69,7 @@ write c w = Gives tt (record w { changed = put c.id c.body w.changed })
 -- the text of an invocation has at most 65,536 bytes
 abbrev pub say : Place → List ℕ → Work → Got (Unit {0})
 say at bytes w =
-    choose (nat_le (length w.text + length bytes) 65536) (Gives tt (record w { text = w.text ++ bytes })) (faults fault.Text at w)
+    if nat_le (length w.text + length bytes) 65536 then Gives tt (record w { text = w.text ++ bytes }) else faults fault.Text at w
 
 -- a mask with the bit of a flag set or cleared
 abbrev pub with_flag : ℕ → ℕ → Bool → ℕ
