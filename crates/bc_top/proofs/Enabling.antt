@@ -35,7 +35,7 @@ takes_no_array f out t [] h = absurd h
 takes_no_array f out t (p ∷ []) h = refl
 takes_no_array f out t (p ∷ q ∷ ps) h = absurd h
 
-both_hold : (a b f : Bool) → a ≡ true → b ≡ f → (a && b && true) ≡ f
+both_hold : (a b f : Bool) → a ≡ true → b ≡ f → (a && b && true && true) ≡ f
 both_hold a b true p q = rw (p, q) refl
 both_hold a b false p q = rw (p, q) refl
 

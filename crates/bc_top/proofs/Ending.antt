@@ -15,7 +15,6 @@ use Rattle.bc_data.specs.declared.run.Ran.TheVariants as ran
 use Rattle.bc_data.specs.declared.run.Stop.{Stop}
 use Rattle.bc_data.specs.declared.run.Stop.TheVariants as stop
 use Rattle.bc_mean.specs.Enabled.{all_enabled, is_some_and}
-use Rattle.bc_mean.specs.Work.{choose}
 use Rattle.bc_mean.specs.Outcome.{outcome, place_of, refused_room}
 use Rattle.bc_mean.specs.Changes.{fault_of_room, apply_changes}
 use Rattle.bc_mean.specs.Serial.{Course, Failed, course_at_start, serial_step, serial_steps, step_pending, step_ran, try_commit, committed, stopped, is_crowded, IsQuiet, IsFault}
@@ -74,7 +73,7 @@ scans P limit out history (q ∷ qs) failures h below e =
           steps = 1;
           reached =
               ap (λ x. step_ran P limit x (outcome P (store_at true out) v).touched v rest r) (commits P true out q t at can (leb-true _ _ room))
-              ∙ ap (λ b. choose b (stopped (stop.Spent v) r) (choose (is_crowded P T) (stopped (stop.Crowded v) r) (committed P T v rest r))) (eq-eqb _ _ e);
+              ∙ ap (λ b. cond b (stopped (stop.Spent v) r) (cond (is_crowded P T) (stopped (stop.Crowded v) r) (committed P T v rest r))) (eq-eqb _ _ e);
           store = refl;
           history = refl;
           ended = sym (ap (λ b. Some (stop_of (cond b (Some q) (find (has_room P.tasks (length out)) qs)))) (tells t at ∙ room));

@@ -13,9 +13,8 @@ use Rattle.bc_data.specs.declared.run.Stop.TheVariants as stop
 use Rattle.bc_mean.specs.declared.plain.Plain.{Plain}
 use Rattle.bc_mean.specs.Store.{start_store}
 use Rattle.bc_mean.specs.Enabled.{all_enabled}
-use Rattle.bc_mean.specs.Work.{choose}
 use Rattle.bc_mean.specs.Outcome.{outcome}
-use Rattle.bc_mean.specs.Serial.{Course, course_at_start, serial_step, serial_steps, step_pending, step_ran, try_commit, committed, stopped, is_crowded, after_commit, after_ran, if_room, replay, replay_from, IsQuiet, IsFault}
+use Rattle.bc_mean.specs.Serial.{Course, course_at_start, serial_step, serial_steps, step_pending, step_ran, try_commit, committed, stopped, is_crowded, after_commit, after_ran, unless_crowded, replay, replay_from, IsQuiet, IsFault}
 use Rattle.bc_top.specs.Run.{CanRun, AllCanRun, text_of, exit_of, on_startup, turns_from, next_turn}
 use Rattle.bc_top.proofs.Turns.{store_at, queue_at, course_at, IsUnderWay}
 use Rattle.bc_top.proofs.Enabling.{can_run_at, enabled_startup, all_enabled_at}
@@ -54,8 +53,8 @@ step_commits P limit k l t history out h few e at can below room =
     ap (λ q. step_pending P limit q r) (queue_here n k l e)
     ∙ ap (λ x. step_ran P limit x o.touched v rest r) (commits P true out k t at can room)
     ∙ ap (λ S. try_commit P limit S v rest r) (applied true out (exit_of t.body.items) (text_of t.body.items))
-    ∙ ap (λ b. choose b (stopped (stop.Spent v) r) (choose (is_crowded P T) (stopped (stop.Crowded v) r) (committed P T v rest r))) other
-    ∙ ap (λ b. choose b (stopped (stop.Crowded v) r) (committed P T v rest r)) (not_crowded P f next h few)
+    ∙ ap (λ b. cond b (stopped (stop.Spent v) r) (cond (is_crowded P T) (stopped (stop.Crowded v) r) (committed P T v rest r))) other
+    ∙ ap (λ b. cond b (stopped (stop.Crowded v) r) (committed P T v rest r)) (not_crowded P f next h few)
     ∙ ap (λ q. record { store = T; history = history ++ v ∷ []; pending = q; failures = []; ended = None }) (pending_turn P f next k l h e ∙ queue_next n k l f e)
   where
     differs : (m n : ℕ) → m < n → (m == n) ≡ false
@@ -68,10 +67,10 @@ commit_replays P k t out h few at can room =
     let v = on_startup k in
     let f = unwrap_or (exit_of t.body.items) true in
     let T = store_at f (out ++ text_of t.body.items) in
-    ap (λ b. choose b (after_ran P S (outcome P S v).ran) None) (enabled_startup P true out k t at can)
+    ap (λ b. cond b (after_ran P S (outcome P S v).ran) None) (enabled_startup P true out k t at can)
     ∙ ap (after_ran P S) (commits P true out k t at can room)
-    ∙ ap (if_room P) (applied true out (exit_of t.body.items) (text_of t.body.items))
-    ∙ ap (λ b. choose b None (Some T)) (not_crowded P f (out ++ text_of t.body.items) h few)
+    ∙ ap (unless_crowded P) (applied true out (exit_of t.body.items) (text_of t.body.items))
+    ∙ ap (λ b. cond b None (Some T)) (not_crowded P f (out ++ text_of t.body.items) h few)
 
 pub replayed_more : (P : Parts) (history : List Invocation) (S T U : Plain) (v : Invocation) → replay_from P S history ≡ Some T → after_commit P T v ≡ Some U → replay_from P S (history ++ v ∷ []) ≡ Some U
 replayed_more P [] S T U v e g = ap (option_and_then (λ X. Some X)) (subst (λ X. after_commit P X v ≡ Some U) (sym (let same : S ≡ T = cc in same)) g)

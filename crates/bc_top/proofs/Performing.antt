@@ -1,5 +1,5 @@
 -- What the body of a small task does.
-use Rattle.std.proofs.Common.{◌≡◌, ℕ, zero, suc, ◌+◌, ◌≤◌, Bool, true, false, List, [], ◌∷◌, ◌++◌, length, refl, sym, ◌∙◌, ap, arith, Option, Some, None, length-append, append_assoc, append-nil}
+use Rattle.std.proofs.Common.{◌≡◌, ℕ, zero, suc, ◌+◌, ◌≤◌, Bool, true, false, cond, List, [], ◌∷◌, ◌++◌, length, refl, sym, ◌∙◌, ap, arith, Option, Some, None, length-append, append_assoc, append-nil}
 use Rattle.std.specs.Prelude.{slice_get, unwrap_or}
 use Rattle.std.proofs.lemmas.Bool.{le-leb, le-ltb}
 use Rattle.bc_data.specs.Program.{Parts}
@@ -17,7 +17,7 @@ use Rattle.bc_data.specs.declared.run.Ran.TheVariants as ran
 use Rattle.bc_data.specs.declared.run.Invocation.{Invocation}
 use Rattle.bc_data.specs.declared.run.FaultKind.TheVariants as fault
 use Rattle.bc_mean.specs.Store.{startup_object}
-use Rattle.bc_mean.specs.Work.{Work, Got, Gives, look_of, with_flag, and_then, choose, faults}
+use Rattle.bc_mean.specs.Work.{Work, Got, Gives, look_of, with_flag, and_then, faults}
 use Rattle.bc_mean.specs.Execute.{Flow, Goes, Leaves, print_parts, act_all, execute_all, if_goes}
 use Rattle.bc_mean.specs.Changes.{apply_changes, changes_between, fault_of_room}
 use Rattle.bc_mean.specs.Outcome.{outcome, body_outcome}
@@ -41,7 +41,7 @@ prints at f [] x h le = ap (λ y. Gives tt (work_at f None y)) (sym (append-nil 
 prints at f (part.Text b ∷ ps) x h le =
     let l : length (b ++ text_of_parts ps) ≡ length b + length (text_of_parts ps) = length-append b (text_of_parts ps) in
     let m : length (x ++ b) ≡ length x + length b = length-append x b in
-    ap (λ c. and_then (choose c (Gives tt (work_at f None (x ++ b))) (faults fault.Text at (work_at f None x))) (λ _ v. print_parts at ps v)) (le-leb (length x + length b) 65536 (omega arith))
+    ap (λ c. and_then (cond c (Gives tt (work_at f None (x ++ b))) (faults fault.Text at (work_at f None x))) (λ _ v. print_parts at ps v)) (le-leb (length x + length b) 65536 (omega arith))
     ∙ prints at f ps (x ++ b) h (omega arith)
     ∙ ap (λ y. Gives tt (work_at f None y)) (append_assoc x b (text_of_parts ps))
 prints at f (part.Number e ∷ ps) x h le = absurd h
