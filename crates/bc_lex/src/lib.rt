@@ -1,0 +1,10 @@
+//! The tokens of a program's text, or its first lexical fault.
+#![tactic(auto)]
+
+mod classes;
+mod lexer;
+mod piece;
+mod scan;
+mod spelling;
+
+pub use lexer::{tokens, LexFault};
