@@ -1,6 +1,6 @@
 -- Bytes at offsets.
 use Rattle.std.proofs.Common.{◌≡◌, ℕ, ◌+◌, ◌<◌, ◌≤◌, ◌==◌, ◌&&◌, ◌||◌, Bool, true, false, nat_le, not, cond, List, length, slice_index, get_or, refl, ap, sym, ◌∙◌, arith, ◌⊎◌, inl, inr}
-use Rattle.std.proofs.lemmas.Bool.{cases_lt, cases_Bool, false≢true}
+use Rattle.std.proofs.lemmas.Bool.{cases_lt, false≢true, leb-false, or_parts}
 use Rattle.std.proofs.lemmas.List.{get_or_past}
 use Rattle.std.proofs.lemmas.Bool.Decides.{nat_tests}
 use Rattle.bc_data.specs.Lexical.{is_plain, is_escape, is_missing, escaped_at, character_at, Character, Whole, Quote, Missing, Wrong}
@@ -35,3 +35,44 @@ whole_inside text i len e =
       | inr k ↦ elim (chosen (b == 92) (escaped_at text (i + 1)) (cond (is_missing text i) Missing (Wrong i)) (Whole len) k.1) [
           inl m ↦ (let two : (len ≡ 2) × (i + 1 < length text) = escaped_inside text (i + 1) len m.1 in (omega arith, omega arith))
         | inr m ↦ elim (chosen (is_missing text i) Missing (Wrong i) (Whole len) m.1) [ inl n ↦ (let never : ⊥ = cc in absurd never) | inr n ↦ (let never : ⊥ = cc in absurd never) ] ] ] ]
+
+never_quote : (text : List ℕ) (i : ℕ) → escaped_at text i ≡ Quote → ⊥
+never_quote text i e =
+    elim (chosen (is_escape (slice_index text i)) (Whole 2) (cond (is_missing text i) Missing (Wrong i)) Quote e) [
+      inl h ↦ cc
+    | inr h ↦ elim (chosen (is_missing text i) Missing (Wrong i) Quote h.1) [ inl k ↦ cc | inr k ↦ cc ] ]
+
+-- a closing quote is within the text
+pub quote_inside : (text : List ℕ) (i : ℕ) → character_at text i ≡ Quote → i < length text
+unfolding character_at
+quote_inside text i e =
+    let b = slice_index text i in
+    elim (chosen (is_plain b) (Whole 1) (cond (b == 34) Quote (cond (b == 92) (escaped_at text (i + 1)) (cond (is_missing text i) Missing (Wrong i)))) Quote e) [
+      inl h ↦ (let never : ⊥ = cc in absurd never)
+    | inr h ↦ elim (chosen (b == 34) Quote (cond (b == 92) (escaped_at text (i + 1)) (cond (is_missing text i) Missing (Wrong i))) Quote h.1) [
+        inl k ↦ inside (λ x. x == 34) text i refl k.0
+      | inr k ↦ elim (chosen (b == 92) (escaped_at text (i + 1)) (cond (is_missing text i) Missing (Wrong i)) Quote k.1) [
+          inl m ↦ absurd (never_quote text (i + 1) m.1)
+        | inr m ↦ elim (chosen (is_missing text i) Missing (Wrong i) Quote m.1) [ inl n ↦ (let never : ⊥ = cc in absurd never) | inr n ↦ (let never : ⊥ = cc in absurd never) ] ] ] ]
+
+not_missing : (text : List ℕ) (i : ℕ) → is_missing text i ≡ false → i < length text
+not_missing text i h = leb-false (length text) i (or_parts (nat_le (length text) i) (slice_index text i == 10) h).0
+
+wrong_escape : (text : List ℕ) (i k : ℕ) → escaped_at text i ≡ Wrong k → (i ≡ k) × (i < length text)
+wrong_escape text i k e =
+    elim (chosen (is_escape (slice_index text i)) (Whole 2) (cond (is_missing text i) Missing (Wrong i)) (Wrong k) e) [
+      inl h ↦ (let never : ⊥ = cc in absurd never)
+    | inr h ↦ elim (chosen (is_missing text i) Missing (Wrong i) (Wrong k) h.1) [ inl m ↦ (let never : ⊥ = cc in absurd never) | inr m ↦ (let same : i ≡ k = cc in same, not_missing text i m.0) ] ]
+
+-- a byte that isn't allowed is within the text
+pub wrong_inside : (text : List ℕ) (i k : ℕ) → character_at text i ≡ Wrong k → (i ≤ k) × (k < length text)
+unfolding character_at
+wrong_inside text i k e =
+    let b = slice_index text i in
+    elim (chosen (is_plain b) (Whole 1) (cond (b == 34) Quote (cond (b == 92) (escaped_at text (i + 1)) (cond (is_missing text i) Missing (Wrong i)))) (Wrong k) e) [
+      inl h ↦ (let never : ⊥ = cc in absurd never)
+    | inr h ↦ elim (chosen (b == 34) Quote (cond (b == 92) (escaped_at text (i + 1)) (cond (is_missing text i) Missing (Wrong i))) (Wrong k) h.1) [
+        inl q ↦ (let never : ⊥ = cc in absurd never)
+      | inr q ↦ elim (chosen (b == 92) (escaped_at text (i + 1)) (cond (is_missing text i) Missing (Wrong i)) (Wrong k) q.1) [
+          inl m ↦ (let at = wrong_escape text (i + 1) k m.1 in let same : i + 1 ≡ k = at.0 in let within : i + 1 < length text = at.1 in (omega arith, omega arith))
+        | inr m ↦ elim (chosen (is_missing text i) Missing (Wrong i) (Wrong k) m.1) [ inl n ↦ (let never : ⊥ = cc in absurd never) | inr n ↦ (let same : i ≡ k = cc in let within : i < length text = not_missing text i n.0 in (omega arith, omega arith)) ] ] ] ]

@@ -1,5 +1,5 @@
 -- The tables have every keyword and every mark.
-use Rattle.std.proofs.Common.{◌≡◌, ℕ, ◌<◌, ◌≤◌, ◌⊎◌, inl, inr, List, length, get_or, refl, lit<, lit≤}
+use Rattle.std.proofs.Common.{◌≡◌, ℕ, ◌<◌, ◌⊎◌, inl, inr, List, length, get_or, refl, lit<}
 use Rattle.std.specs.List.{Contains}
 use Rattle.bc_data.specs.declared.token.Word.{Word}
 use Rattle.bc_data.specs.declared.token.Word.TheVariants as word
@@ -65,30 +65,30 @@ every_mark sign.Star = inr ((16, lit< tt, refl), refl)
 every_mark sign.Slash = inr ((17, lit< tt, refl), refl)
 every_mark sign.Percent = inr ((18, lit< tt, refl), refl)
 
-pub mark_short : (s : Sign) → length (sign_text s) ≤ 2
-mark_short sign.Becomes = lit≤ tt
-mark_short sign.Same = lit≤ tt
-mark_short sign.Differ = lit≤ tt
-mark_short sign.LessEq = lit≤ tt
-mark_short sign.MoreEq = lit≤ tt
-mark_short sign.Both = lit≤ tt
-mark_short sign.Either = lit≤ tt
-mark_short sign.OpenBrace = lit≤ tt
-mark_short sign.CloseBrace = lit≤ tt
-mark_short sign.OpenParen = lit≤ tt
-mark_short sign.CloseParen = lit≤ tt
-mark_short sign.OpenBracket = lit≤ tt
-mark_short sign.CloseBracket = lit≤ tt
-mark_short sign.Semicolon = lit≤ tt
-mark_short sign.Comma = lit≤ tt
-mark_short sign.Dot = lit≤ tt
-mark_short sign.Colon = lit≤ tt
-mark_short sign.Equals = lit≤ tt
-mark_short sign.Bang = lit≤ tt
-mark_short sign.Less = lit≤ tt
-mark_short sign.More = lit≤ tt
-mark_short sign.Plus = lit≤ tt
-mark_short sign.Minus = lit≤ tt
-mark_short sign.Star = lit≤ tt
-mark_short sign.Slash = lit≤ tt
-mark_short sign.Percent = lit≤ tt
+pub mark_some : (s : Sign) → 0 < length (sign_text s)
+mark_some sign.Becomes = lit< tt
+mark_some sign.Same = lit< tt
+mark_some sign.Differ = lit< tt
+mark_some sign.LessEq = lit< tt
+mark_some sign.MoreEq = lit< tt
+mark_some sign.Both = lit< tt
+mark_some sign.Either = lit< tt
+mark_some sign.OpenBrace = lit< tt
+mark_some sign.CloseBrace = lit< tt
+mark_some sign.OpenParen = lit< tt
+mark_some sign.CloseParen = lit< tt
+mark_some sign.OpenBracket = lit< tt
+mark_some sign.CloseBracket = lit< tt
+mark_some sign.Semicolon = lit< tt
+mark_some sign.Comma = lit< tt
+mark_some sign.Dot = lit< tt
+mark_some sign.Colon = lit< tt
+mark_some sign.Equals = lit< tt
+mark_some sign.Bang = lit< tt
+mark_some sign.Less = lit< tt
+mark_some sign.More = lit< tt
+mark_some sign.Plus = lit< tt
+mark_some sign.Minus = lit< tt
+mark_some sign.Star = lit< tt
+mark_some sign.Slash = lit< tt
+mark_some sign.Percent = lit< tt

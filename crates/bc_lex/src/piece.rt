@@ -1,7 +1,7 @@
 // The piece of a text at an offset.
 
 ghost use Rattle.std.specs.Prelude.{◌≡◌, ℕ, ◌+◌, ◌<◌, ◌≤◌, length, slice_index};
-ghost use Rattle.bc_data.specs.Lexical.{start_of, IsPiece, IsPieceFrom, LineComment, BlockComment, Digits, Letters, Other};
+ghost use Rattle.bc_data.specs.Lexical.{start_of, start_at, IsPiece, IsPieceFrom, LineComment, BlockComment, Digits, Letters, Other};
 ghost use Rattle.bc_lex.specs.Pieces.{piece_view, start_view, IsInside};
 
 use crate::classes::{is_blank, is_digit, is_letter};
@@ -91,13 +91,13 @@ fn mark(text: &[u8], i: usize) -> Piece
     }
 }
 
-/// The piece at an offset.
-pub fn piece_at(text: &[u8], i: usize) -> Piece
-    requires { i < length text.now }
-    ensures piece { IsPiece text.now i (piece_view i result) }
-    ensures inside { IsInside text.now i (piece_view i result) }
+/// The piece at an offset, where this is what begins there.
+fn piece_from(start: Start, text: &[u8], i: usize) -> Piece
+    requires within { i < length text.now }
+    requires start { start_view start ≡ start_at text.now i }
+    ensures { IsPiece text.now i (piece_view i result) }
 {
-    match start_of(text[i], byte_at(text, i + 1)) {
+    match start {
         Start::Blank => Piece::Gap(i + 1),
         Start::LineComment => line_comment(text, i),
         Start::BlockComment => block_comment(text, i),
@@ -106,4 +106,13 @@ pub fn piece_at(text: &[u8], i: usize) -> Piece
         Start::Opening => literal(text, i),
         Start::Other => mark(text, i),
     }
+}
+
+/// The piece at an offset.
+pub fn piece_at(text: &[u8], i: usize) -> Piece
+    requires { i < length text.now }
+    ensures piece { IsPiece text.now i (piece_view i result) }
+    ensures inside { IsInside text.now i (piece_view i result) }
+{
+    piece_from(start_of(text[i], byte_at(text, i + 1)), text, i)
 }
