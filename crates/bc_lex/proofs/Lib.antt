@@ -2,3 +2,4 @@ pub mod Bytes
 pub mod Tables
 pub mod Marks
 pub mod Inside
+pub mod Onward

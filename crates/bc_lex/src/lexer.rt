@@ -1,6 +1,6 @@
 // The tokens of a text.
 
-ghost use Rattle.std.specs.Prelude.{◌≡◌, ℕ, ◌+◌, ◌<◌, ◌≤◌, ◌^◌, length};
+ghost use Rattle.std.specs.Prelude.{◌≡◌, ℕ, ◌+◌, ◌<◌, ◌≤◌, ◌^◌, [], ◌∷◌, ◌++◌, length, OnOk, IfErr};
 ghost use Rattle.bc_data.specs.Lexical.{after_byte, place_behind};
 ghost use Rattle.bc_lex.specs.Contract.{IsLexed};
 
@@ -63,6 +63,14 @@ fn place_behind(at: Place, bytes: &[u8]) -> Place
     place
 }
 
+/// Appends a token.
+fn push(tokens: &mut List<Token>, token: Token) -> Result<(), LexFault>
+    ensures ok { OnOk result (tokens.new ≡ tokens.old ++ token ∷ []) }
+    ensures err { IfErr result (λ fault. fault ≡ LexFault.Memory) }
+{
+    tokens.push(token).map_err(|_| LexFault::Memory)
+}
+
 /// The tokens of a text, the last of which is `End`.
 ///
 /// # Errors
@@ -85,7 +93,7 @@ pub fn tokens(alloc: Global, text: &[u8]) -> Result<List<Token>, LexFault>
                     end: end as u32,
                     at,
                 };
-                tokens.push(token).map_err(|_| LexFault::Memory)?;
+                push(&mut tokens, token)?;
                 end
             }
             Piece::BadByte(offset) => {
@@ -106,6 +114,6 @@ pub fn tokens(alloc: Global, text: &[u8]) -> Result<List<Token>, LexFault>
         end: i as u32,
         at,
     };
-    tokens.push(end).map_err(|_| LexFault::Memory)?;
+    push(&mut tokens, end)?;
     Ok(tokens)
 }
