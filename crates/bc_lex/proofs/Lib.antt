@@ -3,3 +3,4 @@ pub mod Tables
 pub mod Marks
 pub mod Inside
 pub mod Onward
+pub mod Same

@@ -1,6 +1,7 @@
 -- The tables have every keyword and every mark.
-use Rattle.std.proofs.Common.{◌≡◌, ℕ, ◌<◌, ◌⊎◌, inl, inr, List, length, get_or, refl, lit<}
-use Rattle.std.specs.List.{Contains}
+use Rattle.std.proofs.Common.{◌≡◌, ℕ, ◌<◌, ◌⊎◌, inl, inr, List, length, refl, sym, ap, ◌∙◌, lit<, ◌++◌, Option, Some, nat_eq}
+use Rattle.std.specs.List.{Contains, find}
+use Rattle.std.specs.Cmp.Lexicographic.{pointwise}
 use Rattle.bc_data.specs.declared.token.Word.{Word}
 use Rattle.bc_data.specs.declared.token.Word.TheVariants as word
 use Rattle.bc_data.specs.declared.token.Sign.{Sign}
@@ -92,3 +93,76 @@ mark_some sign.Minus = lit< tt
 mark_some sign.Star = lit< tt
 mark_some sign.Slash = lit< tt
 mark_some sign.Percent = lit< tt
+
+word_of : List ℕ → Option Word
+word_of bytes = find (λ w. pointwise nat_eq (word_text w) bytes) WORDS
+
+word_again : (w : Word) → word_of (word_text w) ≡ Some w
+unfolding word_of
+word_again word.Add = refl
+word_again word.And = refl
+word_again word.Assert = refl
+word_again word.Bool = refl
+word_again word.Class = refl
+word_again word.Clear = refl
+word_again word.Else = refl
+word_again word.False = refl
+word_again word.Flag = refl
+word_again word.If = refl
+word_again word.In = refl
+word_again word.Int = refl
+word_again word.Length = refl
+word_again word.New = refl
+word_again word.Null = refl
+word_again word.Or = refl
+word_again word.Print = refl
+word_again word.Return = refl
+word_again word.Tag = refl
+word_again word.TagType = refl
+word_again word.Task = refl
+word_again word.TaskExit = refl
+word_again word.This = refl
+word_again word.True = refl
+word_again word.Void = refl
+word_again word.While = refl
+word_again word.With = refl
+
+-- two keywords are spelled differently
+pub word_same : (v w : Word) → word_text v ≡ word_text w → v ≡ w
+word_same v w e = let same : Some v ≡ Some w = sym (word_again v) ∙ ap word_of e ∙ word_again w in cc
+
+mark_of : List ℕ → Option Sign
+mark_of bytes = find (λ s. pointwise nat_eq (sign_text s) bytes) (LONG_MARKS ++ SHORT_MARKS)
+
+mark_again : (s : Sign) → mark_of (sign_text s) ≡ Some s
+unfolding mark_of
+mark_again sign.Becomes = refl
+mark_again sign.Same = refl
+mark_again sign.Differ = refl
+mark_again sign.LessEq = refl
+mark_again sign.MoreEq = refl
+mark_again sign.Both = refl
+mark_again sign.Either = refl
+mark_again sign.OpenBrace = refl
+mark_again sign.CloseBrace = refl
+mark_again sign.OpenParen = refl
+mark_again sign.CloseParen = refl
+mark_again sign.OpenBracket = refl
+mark_again sign.CloseBracket = refl
+mark_again sign.Semicolon = refl
+mark_again sign.Comma = refl
+mark_again sign.Dot = refl
+mark_again sign.Colon = refl
+mark_again sign.Equals = refl
+mark_again sign.Bang = refl
+mark_again sign.Less = refl
+mark_again sign.More = refl
+mark_again sign.Plus = refl
+mark_again sign.Minus = refl
+mark_again sign.Star = refl
+mark_again sign.Slash = refl
+mark_again sign.Percent = refl
+
+-- two marks are spelled differently
+pub mark_same : (s t : Sign) → sign_text s ≡ sign_text t → s ≡ t
+mark_same s t e = let same : Some s ≡ Some t = sym (mark_again s) ∙ ap mark_of e ∙ mark_again t in cc
