@@ -4,3 +4,4 @@ pub mod Marks
 pub mod Inside
 pub mod Onward
 pub mod Same
+pub mod Exists

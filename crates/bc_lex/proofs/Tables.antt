@@ -1,5 +1,5 @@
 -- The tables have every keyword and every mark.
-use Rattle.std.proofs.Common.{◌≡◌, ℕ, ◌<◌, ◌⊎◌, inl, inr, List, length, refl, sym, ap, ◌∙◌, lit<, ◌++◌, Option, Some, nat_eq}
+use Rattle.std.proofs.Common.{◌≡◌, ℕ, ◌<◌, ◌≤◌, ◌⊎◌, inl, inr, List, length, refl, sym, ap, ◌∙◌, lit<, lit≤, ◌++◌, zero, suc, slice_index_or, arith, Option, Some, nat_eq}
 use Rattle.std.specs.List.{Contains, find}
 use Rattle.std.specs.Cmp.Lexicographic.{pointwise}
 use Rattle.bc_data.specs.declared.token.Word.{Word}
@@ -65,6 +65,45 @@ every_mark sign.Minus = inr ((15, lit< tt, refl), refl)
 every_mark sign.Star = inr ((16, lit< tt, refl), refl)
 every_mark sign.Slash = inr ((17, lit< tt, refl), refl)
 every_mark sign.Percent = inr ((18, lit< tt, refl), refl)
+
+pub mark_most : (s : Sign) → length (sign_text s) ≤ 2
+mark_most sign.Becomes = lit≤ tt
+mark_most sign.Same = lit≤ tt
+mark_most sign.Differ = lit≤ tt
+mark_most sign.LessEq = lit≤ tt
+mark_most sign.MoreEq = lit≤ tt
+mark_most sign.Both = lit≤ tt
+mark_most sign.Either = lit≤ tt
+mark_most sign.OpenBrace = lit≤ tt
+mark_most sign.CloseBrace = lit≤ tt
+mark_most sign.OpenParen = lit≤ tt
+mark_most sign.CloseParen = lit≤ tt
+mark_most sign.OpenBracket = lit≤ tt
+mark_most sign.CloseBracket = lit≤ tt
+mark_most sign.Semicolon = lit≤ tt
+mark_most sign.Comma = lit≤ tt
+mark_most sign.Dot = lit≤ tt
+mark_most sign.Colon = lit≤ tt
+mark_most sign.Equals = lit≤ tt
+mark_most sign.Bang = lit≤ tt
+mark_most sign.Less = lit≤ tt
+mark_most sign.More = lit≤ tt
+mark_most sign.Plus = lit≤ tt
+mark_most sign.Minus = lit≤ tt
+mark_most sign.Star = lit≤ tt
+mark_most sign.Slash = lit≤ tt
+mark_most sign.Percent = lit≤ tt
+
+-- a mark of the table of long ones has two bytes
+pub long_two : (k : ℕ) (d : Sign) → k < length LONG_MARKS → length (sign_text (slice_index_or LONG_MARKS k d)) ≡ 2
+long_two zero d h = refl
+long_two (suc zero) d h = refl
+long_two (suc (suc zero)) d h = refl
+long_two (suc (suc (suc zero))) d h = refl
+long_two (suc (suc (suc (suc zero)))) d h = refl
+long_two (suc (suc (suc (suc (suc zero))))) d h = refl
+long_two (suc (suc (suc (suc (suc (suc zero)))))) d h = refl
+long_two (suc (suc (suc (suc (suc (suc (suc k))))))) d h = absurd (omega arith)
 
 pub mark_some : (s : Sign) → 0 < length (sign_text s)
 mark_some sign.Becomes = lit< tt

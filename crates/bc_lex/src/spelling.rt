@@ -169,12 +169,10 @@ fn stands_at(text: &[u8], i: usize, mark: Sign) -> bool
     text[i..].starts_with(sign_text(mark))
 }
 
-/// The first of these marks, which all have as many bytes, that the text has at the offset.
-fn standing(text: &[u8], i: usize, marks: &[Sign], len: usize) -> Option<Sign>
-    requires within { i < length text.now }
-    requires lengths { (k : ℕ) (d : Sign) → k < length marks.now → length (sign_text (slice_index_or marks.now k d)) ≡ len }
-    ensures stands { IfSome result (λ mark. StandsAt text.now i (sign_text mark)) }
-    ensures length { IfSome result (λ mark. length (sign_text mark) ≡ len) }
+/// The first of these marks that the text has at the offset.
+fn standing(text: &[u8], i: usize, marks: &[Sign]) -> Option<Sign>
+    requires { i < length text.now }
+    ensures some { IfSome result (λ mark. Contains marks.now mark × StandsAt text.now i (sign_text mark)) }
     ensures none { IfNone result ((k : ℕ) (d : Sign) → k < length marks.now → StandsAt text.now i (sign_text (slice_index_or marks.now k d)) → ⊥) }
 {
     for mark in marks {
@@ -191,9 +189,9 @@ pub fn mark_at(text: &[u8], i: usize) -> Option<Sign>
     ensures some { IfSome result (λ mark. IsMarkAt text.now i mark) }
     ensures none { IfNone result ((mark : Sign) → StandsAt text.now i (sign_text mark) → ⊥) }
 {
-    match standing(text, i, &LONG_MARKS, 2) {
+    match standing(text, i, &LONG_MARKS) {
         Some(mark) => Some(mark),
-        None => standing(text, i, &SHORT_MARKS, 1),
+        None => standing(text, i, &SHORT_MARKS),
     }
 }
 
