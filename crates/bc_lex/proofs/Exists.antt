@@ -21,7 +21,7 @@ first_step test i n j no_test within f = record {
   from = (let low : i + 1 ≤ j = f.from in omega arith);
   to = f.to;
   before = λ k low high. elim (cases_eq k i) [ inl e ↦ ap test e ∙ no_test | inr other ↦ f.before k (omega (arith, other)) high ];
-  here = f.here
+  here = f.here;
 }
 
 pub first_exists : (test : ℕ → Bool) (left i n : ℕ) → i + left ≡ n → (j : ℕ) × IsFirst test i n j
@@ -29,8 +29,9 @@ first_exists test zero i n e = (n, record { from = omega arith; to = omega arith
 first_exists test (suc left) i n e =
     let next = first_exists test left (i + 1) n (omega arith) in
     elim (cases_Bool (test i)) [
-      inl h ↦ (i, record { from = omega arith; to = omega arith; before = λ k low high. absurd (omega arith); here = λ _. h })
-    | inr h ↦ (next.0, first_step test i n next.0 h (omega arith) next.1) ]
+      | inl h ↦ (i, record { from = omega arith; to = omega arith; before = λ k low high. absurd (omega arith); here = λ _. h })
+      | inr h ↦ (next.0, first_step test i n next.0 h (omega arith) next.1)
+    ]
 
 no_word_more : (bytes : List ℕ) (w : Word) (ws : List Word) → (bytes ≡ word_text w → ⊥) → NoWordOf bytes ws → NoWordOf bytes (w ∷ ws)
 no_word_more bytes w ws here rest zero d h e = here e
@@ -41,10 +42,12 @@ spelled_or_none : (bytes : List ℕ) (ws : List Word) → ((w : Word) × (bytes 
 spelled_or_none bytes [] = inr (λ k d h e. absurd (omega arith))
 spelled_or_none bytes (w ∷ ws) =
     elim (cases_Bool (pointwise nat_eq bytes (word_text w))) [
-      inl h ↦ inl (w, same_text bytes (word_text w) (sym h))
-    | inr h ↦ elim (spelled_or_none bytes ws) [
-        inl found ↦ inl found
-      | inr none ↦ inr (no_word_more bytes w ws (other_text bytes (word_text w) (sym h)) none) ] ]
+      | inl h ↦ inl (w, same_text bytes (word_text w) (sym h))
+      | inr h ↦ elim (spelled_or_none bytes ws) [
+        | inl found ↦ inl found
+        | inr none ↦ inr (no_word_more bytes w ws (other_text bytes (word_text w) (sym h)) none)
+      ]
+    ]
 
 word_or_none : (bytes : List ℕ) → ((w : Word) × (bytes ≡ word_text w)) ⊎ ((w : Word) → bytes ≡ word_text w → ⊥)
 word_or_none bytes = elim (spelled_or_none bytes WORDS) [ inl found ↦ inl found | inr none ↦ inr (no_word None bytes none) ]
@@ -62,18 +65,22 @@ standing_or_none text i [] = inr (λ k d h e. absurd (omega arith))
 standing_or_none text i (m ∷ ms) =
     let bytes : List ℕ = slice_range text i (i + length (sign_text m)) in
     elim (cases_Bool (pointwise nat_eq bytes (sign_text m))) [
-      inl h ↦ inl (m, (0, omega arith, refl), same_text bytes (sign_text m) (sym h))
-    | inr h ↦ elim (standing_or_none text i ms) [
-        inl found ↦ inl (found.0, contains_more m ms found.0 found.1, found.2)
-      | inr none ↦ inr (no_mark_more text i m ms (other_text bytes (sign_text m) (sym h)) none) ] ]
+      | inl h ↦ inl (m, (0, omega arith, refl), same_text bytes (sign_text m) (sym h))
+      | inr h ↦ elim (standing_or_none text i ms) [
+        | inl found ↦ inl (found.0, contains_more m ms found.0 found.1, found.2)
+        | inr none ↦ inr (no_mark_more text i m ms (other_text bytes (sign_text m) (sym h)) none)
+      ]
+    ]
 
 mark_or_none : (text : List ℕ) (i : ℕ) → ((m : Sign) × IsMarkAt text i m) ⊎ ((m : Sign) → StandsAt text i (sign_text m) → ⊥)
 mark_or_none text i =
     elim (standing_or_none text i LONG_MARKS) [
-      inl found ↦ inl (found.0, long_mark text i found.0 found.1 found.2)
-    | inr long ↦ elim (standing_or_none text i SHORT_MARKS) [
-        inl found ↦ inl (found.0, short_mark text i found.0 long found.2)
-      | inr short ↦ inr (no_mark None text i long short) ] ]
+      | inl found ↦ inl (found.0, long_mark text i found.0 found.1 found.2)
+      | inr long ↦ elim (standing_or_none text i SHORT_MARKS) [
+        | inl found ↦ inl (found.0, short_mark text i found.0 long found.2)
+        | inr short ↦ inr (no_mark None text i long short)
+      ]
+    ]
 
 number_piece : (text : List ℕ) (i end : ℕ) → IsRunEnd is_digit text i end → (o : Option ℤ) → number_of (slice_range text i end) ≡ o → (p : Piece) × IsPieceFrom Digits text i p
 number_piece text i end run None e = (Broken NumberRange i, (end, run, e, refl))
@@ -85,8 +92,9 @@ name_piece text i end run = elim (word_or_none (slice_range text i end)) [ inl f
 block_piece : (text : List ℕ) (i close : ℕ) → IsClosing text (i + 2) close → (p : Piece) × IsPieceFrom BlockComment text i p
 block_piece text i close h =
     elim (cases_lt close (length text)) [
-      inl within ↦ (Gap (close + 2), (close, h, within, refl))
-    | inr behind ↦ (Broken OpenComment i, (let top : close ≤ length text = h.to in let same : close ≡ length text = omega arith in (subst (λ c. IsClosing text (i + 2) c) same h, refl))) ]
+      | inl within ↦ (Gap (close + 2), (close, h, within, refl))
+      | inr behind ↦ (Broken OpenComment i, (let top : close ≤ length text = h.to in let same : close ≡ length text = omega arith in (subst (λ c. IsClosing text (i + 2) c) same h, refl)))
+    ]
 
 mark_piece : (text : List ℕ) (i : ℕ) → (p : Piece) × IsPieceFrom Other text i p
 mark_piece text i = elim (mark_or_none text i) [ inl found ↦ (Lexeme (Mark found.0) (i + length (sign_text found.0)), (found.1, refl)) | inr none ↦ (Broken BadByte i, (none, refl)) ]
@@ -144,8 +152,9 @@ lexing_exists : (text : List ℕ) (left i : ℕ) → i ≤ length text → lengt
 lexing_exists text zero i high enough = lexing_end text i (omega arith)
 lexing_exists text (suc left) i high enough =
     elim (cases_lt i (length text)) [
-      inl within ↦ (let found = piece_exists text i within in lexing_step text i (λ end low top. lexing_exists text left end top (omega arith)) found.0 found.1)
-    | inr behind ↦ lexing_end text i (omega arith) ]
+      | inl within ↦ (let found = piece_exists text i within in lexing_step text i (λ end low top. lexing_exists text left end top (omega arith)) found.0 found.1)
+      | inr behind ↦ lexing_end text i (omega arith)
+    ]
 
 either : (text : List ℕ) (r : Lexing) → Lexes text 0 r → ((tokens : List Token) × AreTokensOf text tokens) ⊎ ((fault : TokenFault) × (at : Place) × HasTokenFault text fault at)
 either text (Tokens tokens) h = inl (tokens, h)

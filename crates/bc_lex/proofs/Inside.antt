@@ -58,8 +58,9 @@ letter_first text i e =
 run_grows : (fits : ℕ → Bool) (text : List ℕ) (i end : ℕ) → fits (slice_index text i) ≡ true → i < length text → IsRunEnd fits text i end → i < end
 run_grows fits text i end first within run =
     elim (cases_eq i end) [
-      inl e ↦ (let here : not (fits (slice_index text end)) ≡ true = run.here (omega arith) in absurd (false≢true (sym (not_from_true (fits (slice_index text i)) first) ∙ ap (λ k. not (fits (slice_index text k))) e ∙ here)))
-    | inr other ↦ (let low : i ≤ end = run.from in omega arith) ]
+      | inl e ↦ (let here : not (fits (slice_index text end)) ≡ true = run.here (omega arith) in absurd (false≢true (sym (not_from_true (fits (slice_index text i)) first) ∙ ap (λ k. not (fits (slice_index text k))) e ∙ here)))
+      | inr other ↦ (let low : i ≤ end = run.from in omega arith)
+    ]
 
 stands_inside : (text : List ℕ) (i : ℕ) (bytes : List ℕ) → StandsAt text i bytes → 0 < length bytes → i + length bytes ≤ length text
 stands_inside text i bytes h some =

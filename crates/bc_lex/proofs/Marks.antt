@@ -38,8 +38,9 @@ pub short_mark : (text : List ℕ) (i : ℕ) (m : Sign) → NoMarkOf text i LONG
 short_mark text i m long h = record {
   stands = h;
   longest = λ other k. elim (every_mark other) [
-      inl at ↦ absurd (not_listed text i LONG_MARKS other long at k)
-    | inr at ↦ (let one : length (sign_text other) ≡ 1 = at.1 in let some : 0 < length (sign_text m) = mark_some m in omega arith) ]
+    | inl at ↦ absurd (not_listed text i LONG_MARKS other long at k)
+    | inr at ↦ (let one : length (sign_text other) ≡ 1 = at.1 in let some : 0 < length (sign_text m) = mark_some m in omega arith)
+  ];
 }
 
 pub longest_mark : (o : Option Sign) (text : List ℕ) (i : ℕ) → NoMarkOf text i LONG_MARKS → IfSome o (λ m. Contains SHORT_MARKS m × StandsAt text i (sign_text m)) → IfSome o (λ m. IsMarkAt text i m)

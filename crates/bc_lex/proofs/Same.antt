@@ -13,10 +13,12 @@ use Rattle.bc_lex.proofs.Tables.{word_same, mark_same}
 pub first_same : (test : ℕ → Bool) (i n a b : ℕ) → IsFirst test i n a → IsFirst test i n b → a ≡ b
 first_same test i n a b f g =
     elim (cases_order a b) [
-      inl e ↦ e
-    | inr o ↦ elim o [
-        inl h ↦ absurd (false≢true (sym (g.before a f.from h) ∙ f.here (let top : b ≤ n = g.to in omega arith)))
-      | inr h ↦ absurd (false≢true (sym (f.before b g.from h) ∙ g.here (let top : a ≤ n = f.to in omega arith))) ] ]
+      | inl e ↦ e
+      | inr o ↦ elim o [
+        | inl h ↦ absurd (false≢true (sym (g.before a f.from h) ∙ f.here (let top : b ≤ n = g.to in omega arith)))
+        | inr h ↦ absurd (false≢true (sym (f.before b g.from h) ∙ g.here (let top : a ≤ n = f.to in omega arith)))
+      ]
+    ]
 
 line_same : (text : List ℕ) (i end : ℕ) → IsLineEnd text (i + 2) end → (q : Piece) → IsPieceFrom LineComment text i q → Gap end ≡ q
 line_same text i end h (Gap other) k = ap Gap (first_same (λ k. slice_index text k == 10) (i + 2) (length text) end other h k)

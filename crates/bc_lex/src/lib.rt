@@ -8,4 +8,4 @@ mod piece;
 mod scan;
 mod spelling;
 
-pub use lexer::{tokens, LexFault};
+pub use lexer::{LexFault, tokens};

@@ -5,7 +5,7 @@ ghost use Rattle.bc_data.specs.Lexical.{start_of, start_at, IsPiece, IsPieceFrom
 ghost use Rattle.bc_lex.specs.Pieces.{piece_view, start_view, IsInside};
 
 use crate::classes::{is_blank, is_digit, is_letter};
-use crate::scan::{byte_at, closing, digits_end, line_end, literal, name_end, number_of, Piece};
+use crate::scan::{Piece, byte_at, closing, digits_end, line_end, literal, name_end, number_of};
 use crate::spelling::{keyword, mark_at, mark_len};
 use bc_data::token::TokenKind;
 

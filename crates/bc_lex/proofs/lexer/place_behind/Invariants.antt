@@ -6,5 +6,5 @@ abbrev pub invariant-loop-byte : goal.invariant-loop-byte
 invariant-loop-byte l = record {
   place : l.place ≡ place_behind l.fn.at (take l.byte-index l.bytes);
   line : l.place.line ≤ l.fn.at.line + l.byte-index;
-  column : l.place.column ≤ l.fn.at.column + l.byte-index
+  column : l.place.column ≤ l.fn.at.column + l.byte-index;
 }

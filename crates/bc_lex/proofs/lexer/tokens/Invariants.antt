@@ -9,7 +9,7 @@ invariant-loop-i l = record {
   place : l.at ≡ place_at l.text l.i;
   line : l.at.line ≤ l.i + 1;
   column : l.at.column ≤ l.i + 1;
-  onward : Onward l.text l.i l.tokens
+  onward : Onward l.text l.i l.tokens;
 }
 
 abbrev pub decreases-loop-i : goal.decreases-loop-i

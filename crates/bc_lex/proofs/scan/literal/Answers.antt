@@ -28,7 +28,7 @@ loop-len-preserved c =
     record {
       low = omega (arith, h);
       high = h.1;
-      onward = λ p rest. c.loop-len.invariant.onward p (more (is_whole w) rest)
+      onward = λ p rest. c.loop-len.invariant.onward p (more (is_whole w) rest);
     }
 
 pub returns-in-Quote : goal.returns-in-Quote

@@ -6,7 +6,7 @@ abbrev pub invariant-loop-len : goal.invariant-loop-len
 invariant-loop-len l = record {
   low : l.opening < l.i;
   high : l.i ≤ length l.text;
-  onward : (p : Piece) → IsTextFrom l.text l.opening l.i p → IsTextFrom l.text l.opening (l.opening + 1) p
+  onward : (p : Piece) → IsTextFrom l.text l.opening l.i p → IsTextFrom l.text l.opening (l.opening + 1) p;
 }
 
 abbrev pub decreases-loop-len : goal.decreases-loop-len
