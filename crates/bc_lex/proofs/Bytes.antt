@@ -1,9 +1,8 @@
 -- Bytes at offsets.
-use Rattle.std.proofs.Common.{◌≡◌, ℕ, ◌+◌, ◌<◌, ◌≤◌, ◌==◌, ◌&&◌, ◌||◌, Bool, true, false, nat_le, not, cond, List, length, slice_index, get_or, refl, ap, sym, ◌∙◌, arith, ◌⊎◌, inl, inr}
+use Rattle.std.proofs.Common.{◌≡◌, ℕ, ◌+◌, ◌<◌, ◌≤◌, ◌==◌, Bool, true, false, nat_le, cond, List, length, slice_index, refl, ap, sym, ◌∙◌, arith, ◌⊎◌, inl, inr}
 use Rattle.std.proofs.lemmas.Bool.{cases_lt, false≢true, leb-false, or_parts}
 use Rattle.std.proofs.lemmas.List.{get_or_past}
-use Rattle.std.proofs.lemmas.Bool.Decides.{nat_tests}
-use Rattle.bc_data.specs.Lexical.{is_plain, is_escape, is_missing, escaped_at, character_at, Character, Whole, Quote, Missing, Wrong}
+use Rattle.bc_data.specs.Lexical.{is_plain, is_escape, is_missing, escaped_at, character_at, Whole, Quote, Missing, Wrong}
 
 -- a byte that isn't 0 is within the text
 pub inside : (test : ℕ → Bool) (text : List ℕ) (i : ℕ) → test 0 ≡ false → test (slice_index text i) ≡ true → i < length text

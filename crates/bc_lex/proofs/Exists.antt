@@ -1,5 +1,5 @@
 -- Every text has a piece at each offset, and a lexing.
-use Rattle.std.proofs.Common.{◌≡◌, ℕ, zero, suc, ◌+◌, ◌-◌, ◌<◌, ◌≤◌, ◌==◌, ◌&&◌, ◌⊎◌, inl, inr, Bool, true, false, not, nat_eq, List, [], ◌∷◌, length, slice_index, slice_range, slice_index_or, refl, sym, ap, ◌∙◌, arith, subst, Option, Some, None, ℤ, add-one, zero-le}
+use Rattle.std.proofs.Common.{◌≡◌, ℕ, zero, suc, ◌+◌, ◌-◌, ◌<◌, ◌≤◌, ◌==◌, ◌&&◌, ◌⊎◌, inl, inr, Bool, false, not, nat_eq, List, [], ◌∷◌, length, slice_index, slice_range, refl, sym, ap, ◌∙◌, arith, subst, Option, Some, None, ℤ, zero-le}
 use Rattle.std.specs.List.{Contains}
 use Rattle.std.specs.Cmp.Lexicographic.{pointwise, same_text, other_text}
 use Rattle.std.proofs.lemmas.Bool.{cases_lt, cases_eq, cases_Bool}
@@ -9,9 +9,8 @@ use Rattle.bc_data.specs.declared.token.Word.{Word}
 use Rattle.bc_data.specs.declared.token.TokenKind.TheVariants.{Keyword, Name, Number, Text, Mark, End}
 use Rattle.bc_data.specs.declared.token.Token.{Token}
 use Rattle.bc_data.specs.Spelling.{sign_text, word_text, number_of}
-use Rattle.bc_data.specs.Lexical.{is_digit, is_name_byte, Character, character_at, Whole, Quote, Missing, Wrong, IsTextFrom, more, closed, unclosed, wrong, Start, Blank, LineComment, BlockComment, Digits, Letters, Opening, Other, start_at, IsPieceFrom, IsPiece, Piece, Gap, Lexeme, Broken, BadByte, OpenComment, OpenText, NumberRange, StandsAt, IsMarkAt, IsFirst, IsRunEnd, IsLineEnd, IsClosing, Lexing, Tokens, Refused, with_token, token_at, place_at, Lexes, finished, gap, token, broken, AreTokensOf, HasTokenFault, TokenFault}
+use Rattle.bc_data.specs.Lexical.{is_digit, is_name_byte, Character, character_at, Whole, Quote, Missing, Wrong, IsTextFrom, more, closed, unclosed, wrong, Start, Blank, LineComment, BlockComment, Digits, Letters, Opening, Other, start_at, IsPieceFrom, IsPiece, Piece, Gap, Lexeme, Broken, BadByte, OpenComment, OpenText, NumberRange, StandsAt, IsMarkAt, IsFirst, IsRunEnd, IsClosing, Lexing, Tokens, Refused, with_token, token_at, place_at, Lexes, finished, gap, token, broken, AreTokensOf, HasTokenFault, TokenFault}
 use Rattle.bc_lex.specs.declared.spelling.TheConstants.{WORDS, LONG_MARKS, SHORT_MARKS}
-use Rattle.bc_lex.proofs.Tables.{every_word, every_mark}
 use Rattle.bc_lex.proofs.Marks.{NoWordOf, NoMarkOf, no_word, no_mark, long_mark, short_mark}
 use Rattle.bc_lex.proofs.Bytes.{whole_inside}
 use Rattle.bc_lex.proofs.Inside.{line_inside, block_inside, piece_inside}

@@ -1,12 +1,9 @@
 -- A piece is not empty and ends within the text.
-use Rattle.std.proofs.Common.{◌≡◌, ℕ, ◌+◌, ◌-◌, ◌<◌, ◌≤◌, ◌==◌, ◌&&◌, ◌||◌, ◌⊎◌, inl, inr, Bool, true, false, not, cond, List, length, slice_index, slice_range, refl, sym, ap, ◌∙◌, arith, length-take, length-drop, subst, lit≤}
-use Rattle.std.proofs.lemmas.Bool.{cond_both, and_parts, eqb-true, cases_eq, or_left, false≢true, not_from_true}
-use Rattle.std.proofs.lemmas.List.{get_or_past}
-use Rattle.bc_data.specs.declared.token.Sign.{Sign}
-use Rattle.bc_data.specs.declared.token.Sign.TheVariants as sign
-use Rattle.bc_data.specs.declared.token.TokenKind.TheVariants.{Keyword, Name, Number, Text, Mark, End}
+use Rattle.std.proofs.Common.{◌≡◌, ℕ, ◌+◌, ◌<◌, ◌≤◌, ◌==◌, ◌&&◌, inl, inr, Bool, true, not, cond, List, length, slice_index, slice_range, refl, sym, ap, ◌∙◌, arith, length-take, length-drop, subst}
+use Rattle.std.proofs.lemmas.Bool.{cond_both, and_parts, cases_eq, or_left, false≢true, not_from_true}
+use Rattle.bc_data.specs.declared.token.TokenKind.TheVariants.{Keyword, Name, Number, Mark}
 use Rattle.bc_data.specs.Spelling.{sign_text}
-use Rattle.bc_data.specs.Lexical.{is_blank, is_digit, is_letter, is_name_byte, is_plain, is_missing, is_escape, escaped_at, character_at, Character, Whole, Quote, Missing, Wrong, IsTextFrom, more, closed, unclosed, wrong, Start, Blank, LineComment, BlockComment, Digits, Letters, Opening, Other, start_of, start_at, IsPieceFrom, IsPiece, Piece, Gap, Lexeme, Broken, BadByte, OpenComment, OpenText, NumberRange, StandsAt, IsRunEnd, IsClosing}
+use Rattle.bc_data.specs.Lexical.{is_blank, is_digit, is_letter, is_name_byte, IsTextFrom, more, closed, unclosed, wrong, Start, Blank, LineComment, BlockComment, Digits, Letters, Opening, Other, start_of, start_at, IsPieceFrom, IsPiece, Piece, Gap, Lexeme, Broken, BadByte, OpenComment, NumberRange, StandsAt, IsRunEnd, IsClosing}
 use Rattle.bc_lex.specs.Pieces.{IsInside}
 use Rattle.bc_lex.proofs.Bytes.{inside, whole_inside, quote_inside, wrong_inside}
 use Rattle.bc_lex.proofs.Tables.{mark_some}

@@ -1,5 +1,5 @@
 -- The tables answer for every keyword and every mark.
-use Rattle.std.proofs.Common.{◌≡◌, ℕ, ◌<◌, ◌≤◌, ◌⊎◌, inl, inr, List, length, slice_index_or, refl, sym, ap, ◌∙◌, Option, Some, None, arith, subst}
+use Rattle.std.proofs.Common.{◌≡◌, ℕ, ◌<◌, ◌≤◌, inl, inr, List, length, slice_index_or, sym, ap, ◌∙◌, Option, Some, None, arith, subst}
 use Rattle.std.specs.Prelude.{IfSome, IfNone}
 use Rattle.std.specs.List.{Contains}
 use Rattle.bc_data.specs.declared.token.Word.{Word}

@@ -1,13 +1,11 @@
 -- A text has at most one piece at an offset, and at most one lexing.
-use Rattle.std.proofs.Common.{◌≡◌, ℕ, ◌+◌, ◌-◌, ◌<◌, ◌≤◌, ◌==◌, ◌&&◌, ◌⊎◌, inl, inr, Bool, true, false, not, List, [], ◌∷◌, length, slice_index, slice_range, refl, sym, ap, ◌∙◌, arith, subst, Option, Some, None, ℤ}
+use Rattle.std.proofs.Common.{◌≡◌, ℕ, ◌+◌, ◌<◌, ◌≤◌, ◌==◌, ◌&&◌, inl, inr, Bool, not, List, length, slice_index, slice_range, sym, ap, ◌∙◌, arith, subst, Some, None, ℤ}
 use Rattle.std.proofs.lemmas.Bool.{cases_order, false≢true}
 use Rattle.bc_data.specs.declared.token.Sign.{Sign}
 use Rattle.bc_data.specs.declared.token.Word.{Word}
-use Rattle.bc_data.specs.declared.token.TokenKind.{TokenKind}
-use Rattle.bc_data.specs.declared.token.TokenKind.TheVariants.{Keyword, Name, Number, Text, Mark, End}
-use Rattle.bc_data.specs.declared.token.Token.{Token}
+use Rattle.bc_data.specs.declared.token.TokenKind.TheVariants.{Keyword, Name, Number, Mark}
 use Rattle.bc_data.specs.Spelling.{sign_text, word_text, number_of}
-use Rattle.bc_data.specs.Lexical.{is_digit, is_name_byte, character_at, Whole, Quote, Missing, Wrong, IsTextFrom, more, closed, unclosed, wrong, Start, Blank, LineComment, BlockComment, Digits, Letters, Opening, Other, start_at, IsPieceFrom, IsPiece, Piece, Gap, Lexeme, Broken, BadByte, OpenComment, OpenText, NumberRange, StandsAt, IsMarkAt, IsFirst, IsRunEnd, IsLineEnd, IsClosing, Lexing, Tokens, Refused, with_token, token_at, place_at, Lexes, finished, gap, token, broken}
+use Rattle.bc_data.specs.Lexical.{is_digit, is_name_byte, Whole, Quote, Missing, Wrong, IsTextFrom, more, closed, unclosed, wrong, Start, Blank, LineComment, BlockComment, Digits, Letters, Opening, Other, start_at, IsPieceFrom, IsPiece, Piece, Gap, Lexeme, Broken, BadByte, OpenComment, NumberRange, StandsAt, IsMarkAt, IsFirst, IsRunEnd, IsLineEnd, IsClosing, Lexing, Refused, with_token, token_at, place_at, Lexes, finished, gap, token, broken}
 use Rattle.bc_lex.proofs.Tables.{word_same, mark_same}
 
 pub first_same : (test : ℕ → Bool) (i n a b : ℕ) → IsFirst test i n a → IsFirst test i n b → a ≡ b

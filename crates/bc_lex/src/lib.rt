@@ -9,3 +9,6 @@ mod scan;
 mod spelling;
 
 pub use lexer::{LexFault, tokens};
+
+#[cfg(test)]
+mod tests;

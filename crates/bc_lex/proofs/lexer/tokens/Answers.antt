@@ -1,4 +1,4 @@
-use Rattle.std.proofs.Common.{◌≡◌, ℕ, ◌+◌, ◌<◌, ◌≤◌, length, refl, sym, ap, ◌∙◌, arith, subst, length-take, length-drop}
+use Rattle.std.proofs.Common.{◌≡◌, ◌≤◌, length, sym, arith, subst, length-take, length-drop}
 use Rattle.bc_data.specs.Lexical.{BadByte, OpenComment, OpenText, NumberRange, Tokens, Lexes}
 use Rattle.bc_lex.proofs.Onward.{Onward, onward_gap, onward_token, onward_end, onward_fault, place_from}
 use Rattle.bc_lex.proofs.lexer.tokens.Goals.{After-place_behind-at, in-Gap, in-Lexeme+in_ok-push-in-Lexeme}

@@ -1,4 +1,4 @@
-use Rattle.std.proofs.Common.{◌≡◌, ℕ, ◌+◌, ◌-◌, ◌≤◌, length}
+use Rattle.std.proofs.Common.{◌≡◌, ◌+◌, ◌-◌, ◌≤◌, length}
 use Rattle.bc_data.specs.Lexical.{place_at}
 use Rattle.bc_lex.proofs.Onward.{Onward}
 use Rattle.bc_lex.proofs.lexer.tokens.Given as goal

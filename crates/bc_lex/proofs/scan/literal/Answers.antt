@@ -1,5 +1,5 @@
-use Rattle.std.proofs.Common.{◌≡◌, ℕ, ◌+◌, ◌<◌, ◌≤◌, length, refl, sym, ap, ◌∙◌, arith, rules}
-use Rattle.bc_data.specs.Lexical.{character_at, Whole, Quote, Missing, Wrong, IsTextFrom, Piece, more, closed, unclosed, wrong}
+use Rattle.std.proofs.Common.{◌≡◌, ◌+◌, ◌<◌, ◌≤◌, length, refl, sym, ap, ◌∙◌, arith, rules}
+use Rattle.bc_data.specs.Lexical.{character_at, Whole, more, closed, unclosed, wrong}
 use Rattle.bc_lex.specs.Pieces.{character_view}
 use Rattle.bc_lex.proofs.Bytes.{whole_inside}
 use Rattle.bc_lex.proofs.scan.literal.Goals.{In-Whole}

@@ -1,4 +1,4 @@
-use Rattle.std.proofs.Common.{◌≡◌, ℕ, ◌+◌, ◌-◌, ◌<◌, ◌≤◌, length}
+use Rattle.std.proofs.Common.{◌+◌, ◌-◌, ◌<◌, ◌≤◌, length}
 use Rattle.bc_data.specs.Lexical.{IsTextFrom, Piece}
 use Rattle.bc_lex.proofs.scan.literal.Given as goal
 

@@ -1,4 +1,4 @@
-use Rattle.std.proofs.Common.{◌≡◌, ℕ, ◌+◌, ◌<◌, ◌≤◌, ◌==◌, ◌&&◌, not, false, slice_index}
+use Rattle.std.proofs.Common.{◌≡◌, ℕ, ◌<◌, ◌≤◌, not, false, slice_index}
 use Rattle.bc_data.specs.Lexical.{is_name_byte}
 use Rattle.bc_lex.proofs.scan.name_end.Given as goal
 

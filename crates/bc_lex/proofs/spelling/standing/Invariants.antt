@@ -1,4 +1,4 @@
-use Rattle.std.proofs.Common.{◌≡◌, ℕ, ◌<◌, slice_index_or}
+use Rattle.std.proofs.Common.{ℕ, ◌<◌, slice_index_or}
 use Rattle.bc_data.specs.declared.token.Sign.{Sign}
 use Rattle.bc_data.specs.Spelling.{sign_text}
 use Rattle.bc_data.specs.Lexical.{StandsAt}
