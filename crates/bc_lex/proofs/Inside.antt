@@ -1,6 +1,6 @@
 -- A piece is not empty and ends within the text.
 use Rattle.std.proofs.Common.{◌≡◌, ℕ, ◌+◌, ◌<◌, ◌≤◌, ◌==◌, ◌&&◌, inl, inr, Bool, true, not, cond, List, length, slice_index, slice_range, refl, sym, ap, ◌∙◌, arith, length-take, length-drop, subst}
-use Rattle.std.proofs.lemmas.Bool.{cond_both, and_parts, cases_eq, or_left, false≢true, not_from_true}
+use Rattle.std.proofs.lemmas.Bool.{eqb-true, cond_both, and_parts, cases_eq, or_left, false≢true, not_from_true}
 use Rattle.bc_data.specs.declared.token.TokenKind.TheVariants.{Keyword, Name, Number, Mark}
 use Rattle.bc_data.specs.Spelling.{sign_text}
 use Rattle.bc_data.specs.Lexical.{is_blank, is_digit, is_letter, is_name_byte, IsTextFrom, more, closed, unclosed, wrong, Start, Blank, LineComment, BlockComment, Digits, Letters, Opening, Other, start_of, start_at, IsPieceFrom, IsPiece, Piece, Gap, Lexeme, Broken, BadByte, OpenComment, NumberRange, StandsAt, IsRunEnd, IsClosing}
@@ -98,3 +98,8 @@ piece_inside_from _ text i p e within h = absurd h
 
 pub piece_inside : (text : List ℕ) (i : ℕ) (p : Piece) → IsPiece text i p → IsInside text i p
 piece_inside text i p h = piece_inside_from (start_at text i) text i p refl h.0 h.1
+
+pub quote_first : (text : List ℕ) (i : ℕ) → start_at text i ≡ Opening → slice_index text i ≡ 34
+quote_first text i e =
+    let P : Start → Type 0 = λ s. Begins s (slice_index text i) (slice_index text (i + 1)) in
+    eqb-true (slice_index text i) 34 (subst P e (begins (slice_index text i) (slice_index text (i + 1))))

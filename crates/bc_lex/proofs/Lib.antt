@@ -5,3 +5,4 @@ pub mod Inside
 pub mod Onward
 pub mod Same
 pub mod Exists
+pub mod Order
