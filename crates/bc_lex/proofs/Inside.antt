@@ -46,10 +46,13 @@ digit_first text i e =
     let P : Start → Type 0 = λ s. Begins s (slice_index text i) (slice_index text (i + 1)) in
     subst P e (begins (slice_index text i) (slice_index text (i + 1)))
 
-pub letter_first : (text : List ℕ) (i : ℕ) → start_at text i ≡ Letters → is_name_byte (slice_index text i) ≡ true
-letter_first text i e =
+pub letter_begins : (text : List ℕ) (i : ℕ) → start_at text i ≡ Letters → is_letter (slice_index text i) ≡ true
+letter_begins text i e =
     let P : Start → Type 0 = λ s. Begins s (slice_index text i) (slice_index text (i + 1)) in
-    or_left (is_letter (slice_index text i)) (is_digit (slice_index text i)) (subst P e (begins (slice_index text i) (slice_index text (i + 1))))
+    subst P e (begins (slice_index text i) (slice_index text (i + 1)))
+
+pub letter_first : (text : List ℕ) (i : ℕ) → start_at text i ≡ Letters → is_name_byte (slice_index text i) ≡ true
+letter_first text i e = or_left (is_letter (slice_index text i)) (is_digit (slice_index text i)) (letter_begins text i e)
 
 -- a run whose first byte fits is not empty
 run_grows : (fits : ℕ → Bool) (text : List ℕ) (i end : ℕ) → fits (slice_index text i) ≡ true → i < length text → IsRunEnd fits text i end → i < end

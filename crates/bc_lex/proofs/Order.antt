@@ -1,15 +1,12 @@
 -- The tokens of a text stand in order.
-use Rattle.std.proofs.Common.{◌≡◌, ℕ, zero, suc, ◌+◌, ◌-◌, ◌<◌, ◌≤◌, List, [], ◌∷◌, length, slice_index, slice_range, slice_index_or, take, drop, refl, sym, ap, ◌∙◌, arith, subst, Some, get_or, get_or-take, get_or-drop, add-zero}
-use Rattle.bc_data.specs.declared.run.Place.{Place}
-use Rattle.bc_data.specs.declared.token.Sign.{Sign}
-use Rattle.bc_data.specs.declared.token.Word.{Word}
+use Rattle.std.proofs.Common.{◌≡◌, ℕ, zero, suc, ◌+◌, ◌-◌, ◌<◌, ◌≤◌, List, [], ◌∷◌, length, slice_index, slice_range, slice_index_or, take, drop, refl, sym, ap, ◌∙◌, arith, subst, get_or-take, get_or-drop, add-zero, length-take, length-drop, true}
+use Rattle.std.proofs.lemmas.Bool.{not-false}
 use Rattle.bc_data.specs.declared.token.TokenKind.{TokenKind}
 use Rattle.bc_data.specs.declared.token.TokenKind.TheVariants.{Keyword, Name, Number, Text, Mark, End}
 use Rattle.bc_data.specs.declared.token.Token.{Token}
-use Rattle.bc_data.specs.Spelling.{sign_text, word_text, number_of}
-use Rattle.bc_data.specs.Lexical.{Start, Blank, LineComment, BlockComment, Digits, Letters, Opening, Other, start_at, IsPieceFrom, IsPiece, Piece, Gap, Lexeme, Broken, Lexing, Tokens, Refused, with_token, token_at, place_at, Lexes, finished, gap, token, broken, AreTokensOf, IsTextFrom, more, closed, unclosed, wrong, BadByte, OpenText}
-use Rattle.bc_lex.specs.Laws.{InOrder, IsSpelled, IsWithin}
-use Rattle.bc_lex.proofs.Inside.{piece_inside, quote_first}
+use Rattle.bc_data.specs.Lexical.{is_letter, is_name_byte, IsRunEnd, Start, Digits, Letters, Opening, Other, start_at, IsPieceFrom, IsPiece, Piece, Gap, Lexeme, Broken, Lexing, Tokens, Refused, with_token, token_at, place_at, Lexes, finished, gap, token, broken, AreTokensOf, IsTextFrom, more, closed, unclosed, wrong, BadByte, OpenText}
+use Rattle.bc_lex.specs.Laws.{InOrder, IsSpelled, IsWithin, IsName}
+use Rattle.bc_lex.proofs.Inside.{piece_inside, quote_first, letter_begins}
 
 earlier : (text : List ℕ) (i j : ℕ) (ts : List Token) → i ≤ j → InOrder text j ts → InOrder text i ts
 earlier text i j [] low h = absurd h
@@ -51,11 +48,23 @@ text_kind text opening kind end (wrong {offset = k} e made) is = let never : Bro
 first_byte : (text : List ℕ) (i end : ℕ) → i < end → slice_index (slice_range text i end) 0 ≡ slice_index text i
 first_byte text i end low = let some : 0 < end - i = omega arith in get_or-take (end - i) (drop i text) 0 0 some ∙ get_or-drop i text 0 0 ∙ ap (λ n. slice_index text n) (add-zero i)
 
+shifted : (text : List ℕ) (i end k : ℕ) → k < end - i → slice_index (slice_range text i end) k ≡ slice_index text (i + k)
+shifted text i end k low = get_or-take (end - i) (drop i text) k 0 low ∙ get_or-drop i text k 0
+
+run_fits : (text : List ℕ) (i end k : ℕ) → IsRunEnd is_name_byte text i end → k < length (slice_range text i end) → is_name_byte (slice_index (slice_range text i end) k) ≡ true
+run_fits text i end k run low =
+    let short : k < end - i = (let len = simp (length-take, length-drop) at low in omega arith) in
+    let fits : is_name_byte (slice_index text (i + k)) ≡ true = not-false (is_name_byte (slice_index text (i + k))) (run.before (i + k) (omega arith) (omega arith)) in
+    ap is_name_byte (shifted text i end k short) ∙ fits
+
+name_text : (text : List ℕ) (i end : ℕ) → start_at text i ≡ Letters → i < end → IsRunEnd is_name_byte text i end → IsName (slice_range text i end)
+name_text text i end e low run = record { first = ap is_letter (first_byte text i end low) ∙ letter_begins text i e; all = λ k within. run_fits text i end k run within }
+
 -- the bytes of a token
 spelled_from : (start : Start) (text : List ℕ) (i end : ℕ) (kind : TokenKind) → start_at text i ≡ start → i < end → IsPieceFrom start text i (Lexeme kind end) → IsSpelled kind (slice_range text i end)
 spelled_from Digits text i end (Number n) e low h = h.1
 spelled_from Letters text i end (Keyword word) e low h = h.1
-spelled_from Letters text i end Name e low h = h.1
+spelled_from Letters text i end Name e low h = (name_text text i end e low h.0, h.1)
 spelled_from Opening text i end kind e low h = subst (λ k. IsSpelled k (slice_range text i end)) (text_kind text i kind end h refl) (first_byte text i end low ∙ quote_first text i e)
 spelled_from Other text i end (Mark mark) e low h = ap (λ n. slice_range text i n) h.1 ∙ h.0.stands
 spelled_from _ text i end kind e low h = absurd h
