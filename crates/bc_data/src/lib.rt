@@ -7,3 +7,4 @@ pub mod program;
 pub mod run;
 pub mod task_set;
 pub mod text;
+pub mod token;
