@@ -1,0 +1,6 @@
+// Laws of the grammar: tokens have one tree or one refused token.
+#![tactic(auto)]
+
+/// Nothing.
+#[tactic(auto, using(crate::proofs::Forward::forward))]
+pub fn nothing() {}
