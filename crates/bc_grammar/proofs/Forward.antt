@@ -187,7 +187,7 @@ pub operand_no_end : (k : Lexeme) → IsOperand k → NotBracketEnd k
 operand_no_end (Mark sign.CloseBracket) h = h
 operand_no_end _ h = tt
 
-printing-want : (k : Lexeme) (at : Place) (items : Sequence PrintItem) (next : Sequence PrintItem → State) (st : Stack) → IsOperand k → printing k at items next st ≡ want k at (InPrint items next st)
+pub printing-want : (k : Lexeme) (at : Place) (items : Sequence PrintItem) (next : Sequence PrintItem → State) (st : Stack) → IsOperand k → printing k at items next st ≡ want k at (InPrint items next st)
 printing-want (Text meaning) at items next st h = absurd h
 printing-want k at items next st h = refl
 
@@ -301,7 +301,7 @@ no_braces : (n : ℕ) (next : Place → State) (e : Expression) (st : Stack) (ts
 no_braces n next e st [] h = refl
 no_braces n next e st (t ∷ ts) h = skip_mark n sign.OpenBrace next (After e st) t ts (not_brace t.kind h)
 
-braces_read : (tweaks : Sequence ActionText) (n : ℕ) (at : Place) (x : Named) (args : Expressions) (st : Stack) (ts rest : List Seen) → SpellsTweaks tweaks ts rest → NotLink (kind_at rest) → run n (tweaks_row at x args st) ts ≡ run n (After (Make at x args tweaks) st) rest
+pub braces_read : (tweaks : Sequence ActionText) (n : ℕ) (at : Place) (x : Named) (args : Expressions) (st : Stack) (ts rest : List Seen) → SpellsTweaks tweaks ts rest → NotLink (kind_at rest) → run n (tweaks_row at x args st) ts ≡ run n (After (Make at x args tweaks) st) rest
 braces_read Empty n at x args st ts rest h l =
     elim h [
       | inl e ↦ ap (λ ts. run n (tweaks_row at x args st) ts) e ∙ no_braces n (λ _. OnMark sign.CloseBrace (λ _. After (Make at x args Empty) st) (Tweaking Empty (λ tweaks. After (Make at x args tweaks) st))) (Make at x args Empty) st rest l

@@ -2,5 +2,5 @@
 #![tactic(auto)]
 
 /// Nothing.
-#[tactic(auto, using(crate::proofs::Forward::forward))]
+#[tactic(auto, using(crate::proofs::ForwardText::forward_items))]
 pub fn nothing() {}
