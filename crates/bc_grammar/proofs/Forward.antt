@@ -138,7 +138,7 @@ flag_room_down p q (InFlagNot st) le room = omega arith
 flag_room_down p q (InFlagTwo op g st) le room = omega arith
 flag_room_down p q (InFlagGroup st) le room = tt
 flag_room_down p q (Guarded bound more last) le room = tt
-flag_room_down p q _ le room = omega arith
+flag_room_down p q _ le room = room
 
 begins : (k : Lexeme) (at : Place) (ts rest : List Seen) → IsOperand k → ts ≡ token k at ∷ rest → IsOperand (kind_at ts)
 begins k at ts rest op h = subst (λ ts. IsOperand (kind_at ts)) (sym h) op

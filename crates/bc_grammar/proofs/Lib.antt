@@ -1,3 +1,5 @@
 pub mod Steps
 pub mod Forward
 pub mod ForwardText
+pub mod Backward
+pub mod BackwardText

@@ -577,7 +577,7 @@ FlagRoom q (InFlagNot st) = q ≤ 1
 FlagRoom q (InFlagTwo op g st) = q < guard_looseness op
 FlagRoom q (InFlagGroup st) = Unit {0}
 FlagRoom q (Guarded bound more last) = Unit {0}
-FlagRoom q _ = q ≤ 0
+FlagRoom q _ = ⊥
 
 -- a field that a `(` follows is not yet the whole
 abbrev pub NoCall : Lexeme → Expression → Type 0

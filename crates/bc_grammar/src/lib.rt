@@ -2,5 +2,5 @@
 #![tactic(auto)]
 
 /// Nothing.
-#[tactic(auto, using(crate::proofs::ForwardText::forward_items))]
+#[tactic(auto, using(crate::proofs::BackwardText::has_step))]
 pub fn nothing() {}
