@@ -92,7 +92,7 @@ abbrev mutual
   Has n all (OnName next other) rest = ((x : Named) (ts : List Seen) → rest ≡ name_token x ∷ ts → Has n all (next x) ts) × Has n all other rest
   Has n all (Want st) rest = Wants st × Leads n all st rest
   Has n all (Got e st) rest = (mid : List Seen) × (height e + levels st ≤ n) × (loose e ≡ 0) × Fits n e st × Leads n all st mid × Spells e mid rest
-  Has n all (After e st) rest = (mid : List Seen) × (height e + levels st ≤ n) × Room (loose e) st × Fits n e st × Leads n all st mid × Spells e mid rest × (loose e ≤ 1)
+  Has n all (After e st) rest = (mid : List Seen) × (height e + levels st ≤ n) × Room (loose e) st × Fits n e st × Leads n all st mid × Spells e mid rest × (loose e ≡ 1)
   Has n all (Dotted at e st) rest = (mid : List Seen) × (height e + levels st + 1 ≤ n) × (loose e ≡ 0) × Fits n e st × Leads n all st mid × Spells e mid (token (Mark sign.Dot) at ∷ rest)
   Has n all (Bracketed at kind front st) rest = (mid : List Seen) × (levels st + 1 ≤ n) × (deepest front + levels st ≤ n) × Floor st × Leads n all st mid × SpellsStats front mid (name_token kind ∷ token (Mark sign.OpenBracket) at ∷ rest)
   Has n all (Stats ps st) rest = (mid : List Seen) × (deepest ps + levels st ≤ n) × Floor st × Leads n all st mid × SpellsStats ps mid rest

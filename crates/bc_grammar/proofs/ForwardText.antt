@@ -28,7 +28,7 @@ skip_front Spells separator n s next other one (More front b) a ts mid rest f h 
 
 -- chains
 
-chain_tight : (e : Expression) → IsChain e → loose e ≡ 0
+pub chain_tight : (e : Expression) → IsChain e → loose e ≡ 0
 chain_tight (Neg at e) h = absurd h
 chain_tight (Not at e) h = absurd h
 chain_tight (Two at op a b) h = absurd h

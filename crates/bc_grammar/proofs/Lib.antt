@@ -3,3 +3,4 @@ pub mod Forward
 pub mod ForwardText
 pub mod Backward
 pub mod BackwardText
+pub mod Completion

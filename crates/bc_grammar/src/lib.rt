@@ -2,5 +2,5 @@
 #![tactic(auto)]
 
 /// Nothing.
-#[tactic(auto, using(crate::proofs::BackwardText::has_step))]
+#[tactic(auto, using(crate::proofs::Completion::completes))]
 pub fn nothing() {}
