@@ -4,3 +4,4 @@ pub mod ForwardText
 pub mod Backward
 pub mod BackwardText
 pub mod Completion
+pub mod Exact
