@@ -5,3 +5,4 @@ pub mod Seen
 pub mod SourceTree
 pub mod Grammar
 pub mod Refusal
+pub mod View
