@@ -1,0 +1,5 @@
+//! Readers of tokens and expressions.
+#![tactic(auto)]
+
+pub mod cursor;
+pub mod tag;
