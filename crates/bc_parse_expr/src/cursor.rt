@@ -1,11 +1,11 @@
 // Single tokens.
 
-ghost use Rattle.std.specs.Prelude.{◌≡◌, ℕ, ◌+◌, ◌-◌, ◌≤◌, ◌<◌, List, [], ◌∷◌, length, take, drop, min, IfOk, IfErr, IfSome, IfNone};
+ghost use Rattle.std.specs.Prelude.{◌≡◌, ℕ, ◌+◌, ◌-◌, ◌≤◌, ◌<◌, List, [], ◌∷◌, length, take, drop, min, IfOk, IfErr, IfSome, IfNone, OnOk, OnErr};
 ghost use Rattle.bc_data.specs.Seen.{seen, between};
 ghost use Rattle.bc_data.specs.declared.run.Place.{Place};
 ghost use Rattle.bc_data.specs.declared.tree.Named.{Named};
 ghost use Rattle.bc_grammar.specs.Machine.{State, Never, OnMark, OnWord, OnName, run};
-ghost use Rattle.bc_parse_expr.specs.Contract.{Answers, Stops};
+ghost use Rattle.bc_parse_expr.specs.Contract.{Answers, Stops, IsOpen, closing_of};
 ghost use Rattle.bc_parse_expr.specs.declared.cursor.Fault.TheVariants.{Memory, Cut};
 
 use bc_data::list::List;
@@ -13,6 +13,9 @@ use bc_data::run::Place;
 use bc_data::token::{Sign, Token, TokenKind, Word};
 use bc_data::tree::Named;
 use std::alloc::{AllocError, AllocFailed, Global};
+
+/// The deepest level.
+pub const LIMIT: u32 = 64;
 
 /// Why there is no tree: the place of the refused token, or that the tokens end before the end of the text.
 #[derive(Drop)]
@@ -39,6 +42,14 @@ impl<T: Drop> From<AllocFailed<T>> for Fault {
     }
 }
 
+/// What closes the place where an expression stands.
+#[derive(Clone, Copy)]
+pub enum Close {
+    Paren,
+    Bracket,
+    Semicolon,
+}
+
 /// The place of a token that was read, and the tokens behind it.
 #[derive(Clone, Copy)]
 pub struct Behind<'a> {
@@ -53,6 +64,31 @@ pub struct NameRead<'a> {
     pub rest: &'a [Token],
 }
 
+/// The mark that closes a place.
+pub fn closing(close: Close) -> Sign
+    ensures { result ≡ closing_of close }
+{
+    match close {
+        Close::Paren => Sign::CloseParen,
+        Close::Bracket => Sign::CloseBracket,
+        Close::Semicolon => Sign::Semicolon,
+    }
+}
+
+/// Whether one node more around a tree of this height stays within 64 levels, where `base` levels are open.
+pub fn check_level(base: u32, height: u32, at: Place) -> Result<(), Fault>
+    requires base { base ≤ 64 }
+    requires height { height ≤ 65 }
+    ensures ok { OnOk result (height + base + 1 ≤ 64) }
+    ensures err { IfErr result (λ e. (e ≡ Fault.TooDeep at) × (64 < height + base + 1)) }
+{
+    if height + base < LIMIT {
+        Ok(())
+    } else {
+        Err(Fault::TooDeep(at))
+    }
+}
+
 /// The next token and those behind it.
 pub fn next(tokens: &[Token]) -> Result<(Token, &[Token]), Fault>
     ensures ok { IfOk result (λ r. tokens.now ≡ r.0 ∷ r.1.now) }
@@ -65,19 +101,20 @@ pub fn next(tokens: &[Token]) -> Result<(Token, &[Token]), Fault>
 }
 
 /// The tokens behind this mark, if it comes next.
-#[tactic(auto, using(crate::proofs::Rows::on_mark, crate::proofs::Rows::not_mark))]
-pub fn accept(tokens: &[Token], sign: Sign) -> Result<Option<Behind<'_>>, Fault>
+#[tactic(auto, using(crate::proofs::Rows::on_mark, crate::proofs::Rows::not_mark, crate::proofs::Rows::no_mark))]
+pub fn accept(tokens: &[Token], sign: Sign) -> Option<Behind<'_>>
     ensures some { (text : List ℕ) (next : Place → State) (other : State) →
-        IfOk result (λ o. IfSome o (λ r. run 64 (OnMark sign next other) (seen text tokens.now) ≡ run 64 (next r.at) (seen text r.rest.now))) }
-    ensures none { (text : List ℕ) (next : Place → State) (other : State) →
-        IfOk result (λ o. IfNone o (run 64 (OnMark sign next other) (seen text tokens.now) ≡ run 64 other (seen text tokens.now))) }
-    ensures shorter { IfOk result (λ o. IfSome o (λ r. length r.rest.now < length tokens.now)) }
-    ensures err { IfErr result (λ e. (e ≡ Cut) × (tokens.now ≡ [])) }
+        IfSome result (λ r. run 64 (OnMark sign next other) (seen text tokens.now) ≡ run 64 (next r.at) (seen text r.rest.now)) }
+    ensures none { (text : List ℕ) (next : Place → State) (other : State) → IsOpen other →
+        IfNone result (run 64 (OnMark sign next other) (seen text tokens.now) ≡ run 64 other (seen text tokens.now)) }
+    ensures shorter { IfSome result (λ r. length r.rest.now < length tokens.now) }
 {
-    let (token, rest) = next(tokens)?;
-    match token.kind {
-        TokenKind::Mark(mark) if mark == sign => Ok(Some(Behind { at: token.at, rest })),
-        _ => Ok(None),
+    match tokens {
+        [first, rest @ ..] => match first.kind {
+            TokenKind::Mark(mark) if mark == sign => Some(Behind { at: first.at, rest }),
+            _ => None,
+        },
+        [] => None,
     }
 }
 
@@ -97,26 +134,27 @@ pub fn expect(tokens: &[Token], sign: Sign) -> Result<Behind<'_>, Fault>
         Answers result (λ r. run 64 (next r.at) (seen text r.rest.now)) (run 64 (OnMark sign next Never) (seen text tokens.now)) }
     ensures shorter { IfOk result (λ r. length r.rest.now < length tokens.now) }
 {
-    match accept(tokens, sign)? {
+    match accept(tokens, sign) {
         Some(behind) => Ok(behind),
         None => Err(refuse(tokens)),
     }
 }
 
 /// The tokens behind this keyword, if it comes next.
-#[tactic(auto, using(crate::proofs::Rows::on_word, crate::proofs::Rows::not_word))]
-pub fn accept_word(tokens: &[Token], word: Word) -> Result<Option<Behind<'_>>, Fault>
+#[tactic(auto, using(crate::proofs::Rows::on_word, crate::proofs::Rows::not_word, crate::proofs::Rows::no_word))]
+pub fn accept_word(tokens: &[Token], word: Word) -> Option<Behind<'_>>
     ensures some { (text : List ℕ) (next : Place → State) (other : State) →
-        IfOk result (λ o. IfSome o (λ r. run 64 (OnWord word next other) (seen text tokens.now) ≡ run 64 (next r.at) (seen text r.rest.now))) }
-    ensures none { (text : List ℕ) (next : Place → State) (other : State) →
-        IfOk result (λ o. IfNone o (run 64 (OnWord word next other) (seen text tokens.now) ≡ run 64 other (seen text tokens.now))) }
-    ensures shorter { IfOk result (λ o. IfSome o (λ r. length r.rest.now < length tokens.now)) }
-    ensures err { IfErr result (λ e. (e ≡ Cut) × (tokens.now ≡ [])) }
+        IfSome result (λ r. run 64 (OnWord word next other) (seen text tokens.now) ≡ run 64 (next r.at) (seen text r.rest.now)) }
+    ensures none { (text : List ℕ) (next : Place → State) (other : State) → IsOpen other →
+        IfNone result (run 64 (OnWord word next other) (seen text tokens.now) ≡ run 64 other (seen text tokens.now)) }
+    ensures shorter { IfSome result (λ r. length r.rest.now < length tokens.now) }
 {
-    let (token, rest) = next(tokens)?;
-    match token.kind {
-        TokenKind::Keyword(keyword) if keyword == word => Ok(Some(Behind { at: token.at, rest })),
-        _ => Ok(None),
+    match tokens {
+        [first, rest @ ..] => match first.kind {
+            TokenKind::Keyword(keyword) if keyword == word => Some(Behind { at: first.at, rest }),
+            _ => None,
+        },
+        [] => None,
     }
 }
 
@@ -126,7 +164,7 @@ pub fn expect_word(tokens: &[Token], word: Word) -> Result<Behind<'_>, Fault>
         Answers result (λ r. run 64 (next r.at) (seen text r.rest.now)) (run 64 (OnWord word next Never) (seen text tokens.now)) }
     ensures shorter { IfOk result (λ r. length r.rest.now < length tokens.now) }
 {
-    match accept_word(tokens, word)? {
+    match accept_word(tokens, word) {
         Some(behind) => Ok(behind),
         None => Err(refuse(tokens)),
     }
