@@ -3,4 +3,5 @@
 
 pub mod cursor;
 pub mod actions;
+pub mod expression;
 
