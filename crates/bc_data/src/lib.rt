@@ -8,3 +8,4 @@ pub mod run;
 pub mod task_set;
 pub mod text;
 pub mod token;
+pub mod tree;

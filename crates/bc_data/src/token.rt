@@ -1,4 +1,4 @@
-// Tokens.
+// The tokens of a program's text.
 
 use crate::run::Place;
 
@@ -34,7 +34,7 @@ pub enum Word {
     With,
 }
 
-/// A mark, as `{` or `:=`.
+/// A mark: `Becomes` is `:=`, `Equals` is `=`, `Same` is `==`, `Both` is `&&` and `Either` is `||`.
 #[derive(Clone, Copy, Debug, PartialEq, Eq)]
 pub enum Sign {
     OpenBrace,
@@ -65,7 +65,7 @@ pub enum Sign {
     Either,
 }
 
-/// What a token is. `End` is the end of the text.
+/// What a token is. `End` stands behind the last byte of the text.
 #[derive(Clone, Copy, Debug, PartialEq, Eq)]
 pub enum TokenKind {
     Keyword(Word),
@@ -76,8 +76,8 @@ pub enum TokenKind {
     End,
 }
 
-/// A token: what it is, the offsets of its first byte and behind its last byte, and the place of its first byte.
-#[derive(Clone, Copy, Debug, PartialEq)]
+/// A token: what it is, its bytes from `start` to before `end`, and its place in the text.
+#[derive(Clone, Copy, Debug, PartialEq, Eq)]
 pub struct Token {
     pub kind: TokenKind,
     pub start: u32,
