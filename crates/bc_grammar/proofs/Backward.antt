@@ -229,8 +229,7 @@ module _ (n : ℕ) (all : List Seen) where
   pub has_tweaks : (at : Place) (x : Named) (args : Expressions) (st : Stack) (mid inner behind : List Seen) (open_at close : Place) → tallest args + levels st + 1 ≤ n → Room 1 st → ((tweaks : Sequence ActionText) → Fits n (Make at x args tweaks) st) → Leads n all st mid
       → mid ≡ token (Keyword word.New) at ∷ name_token x ∷ token (Mark sign.OpenParen) open_at ∷ inner → SpellsArgs args inner (token (Mark sign.CloseParen) close ∷ behind) → Has n all (tweaks_row at x args st) behind
   has_tweaks at x args st mid inner behind open_at close level room fits leads e h =
-      let made : (tweaks : Sequence ActionText) (rest : List Seen) → SpellsTweaks tweaks behind rest → Has n all (After (Make at x args tweaks) st) rest = λ tweaks rest t. (mid, omega arith, room, fits tweaks, leads, (inner, behind, open_at, close, e, h, t), omega arith) in
-      (
+      let made : (tweaks : Sequence ActionText) (rest : List Seen) → SpellsTweaks tweaks behind rest → Has n all (After (Make at x args tweaks) st) rest = λ tweaks rest t. (mid, omega arith, room, fits tweaks, leads, (inner, behind, open_at, close, e, h, t), omega arith) in (
         λ o ts e1. (λ c rest e2. made Empty rest (inr (o, c, e1 ∙ ap (λ l. token (Mark sign.OpenBrace) o ∷ l) e2)), (ts, refl, λ tweaks c rest s. made tweaks rest (tweaks_of tweaks behind ts rest o c e1 s))),
         made Empty behind (inl refl),
       )

@@ -61,9 +61,16 @@ module _ (n : ℕ) (all : List Seen) where
   has_tag : (at : Place) (ps : Statements) (st : Stack) (ts : List Seen) → Has n all (Stats ps st) (token (Keyword word.Tag) at ∷ ts) → levels st + 1 ≤ n → Has n all (tag_row at ps st) ts
   has_tag at ps st ts h le =
       λ x ts1 e1. λ a2 ts2 e2. λ a3 ts3 e3. λ a4 ts4 e4. λ a5 ts5 e5. λ kind ts6 e6. λ a7 ts7 e7. λ a8 ts8 e8.
-      stat_ends n all ps st (token (Keyword word.Tag) at ∷ ts) h (NewTag at x kind) ts8 (omega arith)
-      (a2, a3, a4, a5, a7, a8, ap (λ l. token (Keyword word.Tag) at ∷ l) (e1 ∙ ap (λ l. name_token x ∷ l) (e2 ∙ ap (λ l. token (Mark sign.Equals) a2 ∷ l) (e3 ∙ ap (λ l. token (Keyword word.New) a3 ∷ l) (e4 ∙ ap (λ l. token (Keyword word.Tag) a4 ∷ l)
-      (e5 ∙ ap (λ l. token (Mark sign.OpenParen) a5 ∷ l) (e6 ∙ ap (λ l. name_token kind ∷ l) (e7 ∙ ap (λ l. token (Mark sign.CloseParen) a7 ∷ l) e8))))))))
+      stat_ends n all ps st (token (Keyword word.Tag) at ∷ ts) h (NewTag at x kind) ts8 (omega arith) (
+        a2,
+        a3,
+        a4,
+        a5,
+        a7,
+        a8,
+        ap (λ l. token (Keyword word.Tag) at ∷ l) (e1 ∙ ap (λ l. name_token x ∷ l) (e2 ∙ ap (λ l. token (Mark sign.Equals) a2 ∷ l) (e3 ∙ ap (λ l. token (Keyword word.New) a3 ∷ l) (e4 ∙ ap (λ l. token (Keyword word.Tag) a4 ∷ l)
+            (e5 ∙ ap (λ l. token (Mark sign.OpenParen) a5 ∷ l) (e6 ∙ ap (λ l. name_token kind ∷ l) (e7 ∙ ap (λ l. token (Mark sign.CloseParen) a7 ∷ l) e8))))))),
+      )
 
   has_made_row : (at : Place) (ps : Statements) (st : Stack) (ts : List Seen) → Has n all (Stats ps st) (token (Keyword word.New) at ∷ ts) → levels st + 2 ≤ n → Has n all (made_row at ps st) ts
   has_made_row at ps st ts h le =
@@ -73,16 +80,25 @@ module _ (n : ℕ) (all : List Seen) where
 
   has_print : (at : Place) (ps : Statements) (st : Stack) (ts : List Seen) → Has n all (Stats ps st) (token (Keyword word.Print) at ∷ ts) → levels st + 1 ≤ n → Has n all (OnMark sign.OpenParen (λ _. Printing Empty (print_ends at ps st) st) Never) ts
   has_print at ps st ts h le =
-      λ p ts1 e1. (ts1, omega arith, refl, λ items c rest level s. λ m ts2 e2. stat_ends n all ps st (token (Keyword word.Print) at ∷ ts) h (Print at items) ts2 (omega arith)
-      (ts1, p, c, m, ap (λ l. token (Keyword word.Print) at ∷ l) e1, subst (λ l. Separated SpellsPrintItem (Mark sign.Comma) items ts1 (token (Mark sign.CloseParen) c ∷ l)) e2 s))
+      λ p ts1 e1. (
+        ts1,
+        omega arith,
+        refl,
+        λ items c rest level s. λ m ts2 e2. stat_ends n all ps st (token (Keyword word.Print) at ∷ ts) h (Print at items) ts2 (omega arith)
+            (ts1, p, c, m, ap (λ l. token (Keyword word.Print) at ∷ l) e1, subst (λ l. Separated SpellsPrintItem (Mark sign.Comma) items ts1 (token (Mark sign.CloseParen) c ∷ l)) e2 s),
+      )
 
   has_exit : (at : Place) (ps : Statements) (st : Stack) (ts : List Seen) → Has n all (Stats ps st) (token (Keyword word.TaskExit) at ∷ ts) → levels st + 1 ≤ n → Has n all (exit_row at ps st) ts
   has_exit at ps st ts h le =
       let start = token (Keyword word.TaskExit) at ∷ ts in
       λ p ts1 e1. (
         λ c ts2 e2. λ m ts3 e3. stat_ends n all ps st start h (Exit at Empty) ts3 (omega arith) (ts1, p, c, m, ap (λ l. token (Keyword word.TaskExit) at ∷ l) e1, e2 ∙ ap (λ l. token (Mark sign.CloseParen) c ∷ l) e3),
-        (ts1, refl, λ changes c rest s. λ m ts3 e3. stat_ends n all ps st start h (Exit at changes) ts3 (omega arith)
-            (ts1, p, c, m, ap (λ l. token (Keyword word.TaskExit) at ∷ l) e1, subst (λ l. Listed SpellsChange (Mark sign.Semicolon) changes ts1 (token (Mark sign.CloseParen) c ∷ l)) e3 (listed_of SpellsChange (Mark sign.Semicolon) changes ts1 (token (Mark sign.CloseParen) c ∷ rest) s))),
+        (
+          ts1,
+          refl,
+          λ changes c rest s. λ m ts3 e3. stat_ends n all ps st start h (Exit at changes) ts3 (omega arith)
+              (ts1, p, c, m, ap (λ l. token (Keyword word.TaskExit) at ∷ l) e1, subst (λ l. Listed SpellsChange (Mark sign.Semicolon) changes ts1 (token (Mark sign.CloseParen) c ∷ l)) e3 (listed_of SpellsChange (Mark sign.Semicolon) changes ts1 (token (Mark sign.CloseParen) c ∷ rest) s)),
+        ),
       )
 
   has_stat : (k : Lexeme) (at : Place) (ps : Statements) (st : Stack) (ts : List Seen) → Has n all (Stats ps st) (token k at ∷ ts) → HasStep n all (stat k at ps st) ts
@@ -172,16 +188,19 @@ module _ (n : ℕ) (all : List Seen) where
   has_parameters (Name k) at params next ts h =
       let mid = token (Name k) at ∷ ts in
       let kind : Named = record { name = k; at = at } in
-      λ x ts1 e1. λ i ts2 e2. (tt, (
-        λ g w ts3 low s. (
-          ts3,
-          refl,
-          λ binds c rest b. (h.0, omega (arith, h.1), (mid, c, h.2, (ts2, token (Keyword word.With) w ∷ ts3, i, ap (λ l. token (Name k) at ∷ l) (e1 ∙ ap (λ l. name_token x ∷ l) e2), s, binds_of binds (token (Keyword word.With) w ∷ ts3) ts3 (token (Mark sign.Comma) c ∷ rest) w refl b)), h.3),
-          λ binds c rest b. h.3 (More params (ParamOf kind x g binds)) c rest (omega (arith, h.1)) (mid, h.2, (ts2, token (Keyword word.With) w ∷ ts3, i, ap (λ l. token (Name k) at ∷ l) (e1 ∙ ap (λ l. name_token x ∷ l) e2), s, binds_of binds (token (Keyword word.With) w ∷ ts3) ts3 (token (Mark sign.CloseParen) c ∷ rest) w refl b)),
+      λ x ts1 e1. λ i ts2 e2. (
+        tt,
+        (
+          λ g w ts3 low s. (
+            ts3,
+            refl,
+            λ binds c rest b. (h.0, omega (arith, h.1), (mid, c, h.2, (ts2, token (Keyword word.With) w ∷ ts3, i, ap (λ l. token (Name k) at ∷ l) (e1 ∙ ap (λ l. name_token x ∷ l) e2), s, binds_of binds (token (Keyword word.With) w ∷ ts3) ts3 (token (Mark sign.Comma) c ∷ rest) w refl b)), h.3),
+            λ binds c rest b. h.3 (More params (ParamOf kind x g binds)) c rest (omega (arith, h.1)) (mid, h.2, (ts2, token (Keyword word.With) w ∷ ts3, i, ap (λ l. token (Name k) at ∷ l) (e1 ∙ ap (λ l. name_token x ∷ l) e2), s, binds_of binds (token (Keyword word.With) w ∷ ts3) ts3 (token (Mark sign.CloseParen) c ∷ rest) w refl b)),
+          ),
+          λ g c rest low s. (h.0, omega (arith, h.1), (mid, c, h.2, (ts2, token (Mark sign.Comma) c ∷ rest, i, ap (λ l. token (Name k) at ∷ l) (e1 ∙ ap (λ l. name_token x ∷ l) e2), s, refl)), h.3),
+          λ g c rest low s. h.3 (More params (ParamOf kind x g Empty)) c rest (omega (arith, h.1)) (mid, h.2, (ts2, token (Mark sign.CloseParen) c ∷ rest, i, ap (λ l. token (Name k) at ∷ l) (e1 ∙ ap (λ l. name_token x ∷ l) e2), s, refl)),
         ),
-        λ g c rest low s. (h.0, omega (arith, h.1), (mid, c, h.2, (ts2, token (Mark sign.Comma) c ∷ rest, i, ap (λ l. token (Name k) at ∷ l) (e1 ∙ ap (λ l. name_token x ∷ l) e2), s, refl)), h.3),
-        λ g c rest low s. h.3 (More params (ParamOf kind x g Empty)) c rest (omega (arith, h.1)) (mid, h.2, (ts2, token (Mark sign.CloseParen) c ∷ rest, i, ap (λ l. token (Name k) at ∷ l) (e1 ∙ ap (λ l. name_token x ∷ l) e2), s, refl)),
-      ))
+      )
   has_parameters _ at params next ts h = tt
 
   has_binding : (k : Lexeme) (at : Place) (binds : Sequence Bind) (more last : Sequence Bind → State) (ts : List Seen) → Has n all (Binding binds more last) (token k at ∷ ts) → HasStep n all (binding k at binds more last) ts
@@ -280,8 +299,13 @@ module _ (n : ℕ) (all : List Seen) where
   has_item : (k : Lexeme) (at : Place) (items : Sequence Item) (ts : List Seen) → Has n all (Items items) (token k at ∷ ts) → HasStep n all (item k at items) ts
   has_item (Keyword word.TagType) at items ts h = λ x ts1 e1. λ c ts2 e2. item_had (TagTypeItem x) items (token (Keyword word.TagType) at ∷ ts) ts2 h (omega arith) (at, c, ap (λ l. token (Keyword word.TagType) at ∷ l) (e1 ∙ ap (λ l. name_token x ∷ l) e2))
   has_item (Keyword word.Class) at items ts h = λ x ts1 e1. λ o ts2 e2. (ts2, omega arith, refl, λ members c rest level s. item_had (ClassItem x members) items (token (Keyword word.Class) at ∷ ts) rest h level (ts2, at, o, c, ap (λ l. token (Keyword word.Class) at ∷ l) (e1 ∙ ap (λ l. name_token x ∷ l) e2), s))
-  has_item (Keyword word.Task) at items ts h = λ x ts1 e1. λ o ts2 e2. (ts2, omega arith, refl, λ params c rest level s. has_body (λ body. Items (More items (TaskItem at x params body))) rest
-      (λ body rest2 low b. item_had (TaskItem at x params body) items (token (Keyword word.Task) at ∷ ts) rest2 h (omega arith) (ts2, rest, o, c, ap (λ l. token (Keyword word.Task) at ∷ l) (e1 ∙ ap (λ l. name_token x ∷ l) e2), s, b)))
+  has_item (Keyword word.Task) at items ts h = λ x ts1 e1. λ o ts2 e2. (
+    ts2,
+    omega arith,
+    refl,
+    λ params c rest level s. has_body (λ body. Items (More items (TaskItem at x params body))) rest
+        (λ body rest2 low b. item_had (TaskItem at x params body) items (token (Keyword word.Task) at ∷ ts) rest2 h (omega arith) (ts2, rest, o, c, ap (λ l. token (Keyword word.Task) at ∷ l) (e1 ∙ ap (λ l. name_token x ∷ l) e2), s, b)),
+  )
   has_item End at items ts h = (at, h.0, h.1)
   has_item _ at items ts h = tt
 

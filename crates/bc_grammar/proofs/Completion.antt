@@ -143,8 +143,8 @@ module _ (n : ℕ) where
         (name_token a_name ∷ c.0, c.1, c.2)
     completes (Want st) whole h =
         let c = closes st a_zero (λ r. whole (zero_token ∷ r))
-            (λ r. let l = h (zero_token ∷ r) in (zero_token ∷ r, omega (arith, leads_level n (whole (zero_token ∷ r)) st (zero_token ∷ r) l.1), tight_room st, wants_fits n a_zero st l.0, l.1, refl))
-            (wants_ready a_zero st (h []).0) in
+        (λ r. let l = h (zero_token ∷ r) in (zero_token ∷ r, omega (arith, leads_level n (whole (zero_token ∷ r)) st (zero_token ∷ r) l.1), tight_room st, wants_fits n a_zero st l.0, l.1, refl))
+        (wants_ready a_zero st (h []).0) in
         (zero_token ∷ c.0, c.1, got_after n a_zero st c.0 c.2 ∙ c.4)
     completes (Got (This at) (InChain front st)) whole h =
         let e = This at in
@@ -162,56 +162,64 @@ module _ (n : ℕ) where
         (c.0, c.1, c.4)
     completes (Dotted at e st) whole h =
         let c = closes st (Field at e a_name) (λ r. whole (name_token a_name ∷ r))
-            (λ r. let l = h (name_token a_name ∷ r) in let low : height e + 1 + levels st ≤ n = omega (arith, l.1) in (l.0, low, tight_room st, longer n e (Field at e a_name) st (λ c. c) low refl l.2 l.3, l.4, (l.2, l.5)))
-            (closable_ready (Field at e a_name) st tt) in
+        (λ r. let l = h (name_token a_name ∷ r) in let low : height e + 1 + levels st ≤ n = omega (arith, l.1) in (l.0, low, tight_room st, longer n e (Field at e a_name) st (λ c. c) low refl l.2 l.3, l.4, (l.2, l.5)))
+        (closable_ready (Field at e a_name) st tt) in
         (name_token a_name ∷ c.0, c.1, got_after n (Field at e a_name) st c.0 c.2 ∙ c.4)
     completes (Bracketed at kind front st) whole h =
         let x : TypeText = many_type (base.Class kind.name) kind.at in
         let c = stats_complete st (Then front (Let (record { kind = x; name = a_name }) a_zero)) (λ r. whole (mark sign.CloseBracket ∷ name_token a_name ∷ mark sign.Equals ∷ zero_token ∷ mark sign.Semicolon ∷ r))
-            (λ r. let l = h (mark sign.CloseBracket ∷ name_token a_name ∷ mark sign.Equals ∷ zero_token ∷ mark sign.Semicolon ∷ r) in
-            (l.0, omega (arith, l.1, l.2), l.3, l.4, (name_token kind ∷ token (Mark sign.OpenBracket) at ∷ mark sign.CloseBracket ∷ name_token a_name ∷ mark sign.Equals ∷ zero_token ∷ mark sign.Semicolon ∷ r, l.5,
-            (name_token a_name ∷ mark sign.Equals ∷ zero_token ∷ mark sign.Semicolon ∷ r, zero_token ∷ mark sign.Semicolon ∷ r, origin, origin, (token (Mark sign.OpenBracket) at ∷ mark sign.CloseBracket ∷ name_token a_name ∷ mark sign.Equals ∷ zero_token ∷ mark sign.Semicolon ∷ r, refl, (at, origin, refl)), refl, refl)))) in
+        (λ r. let l = h (mark sign.CloseBracket ∷ name_token a_name ∷ mark sign.Equals ∷ zero_token ∷ mark sign.Semicolon ∷ r) in (
+          l.0,
+          omega (arith, l.1, l.2),
+          l.3,
+          l.4,
+          (
+            name_token kind ∷ token (Mark sign.OpenBracket) at ∷ mark sign.CloseBracket ∷ name_token a_name ∷ mark sign.Equals ∷ zero_token ∷ mark sign.Semicolon ∷ r,
+            l.5,
+            (name_token a_name ∷ mark sign.Equals ∷ zero_token ∷ mark sign.Semicolon ∷ r, zero_token ∷ mark sign.Semicolon ∷ r, origin, origin, (token (Mark sign.OpenBracket) at ∷ mark sign.CloseBracket ∷ name_token a_name ∷ mark sign.Equals ∷ zero_token ∷ mark sign.Semicolon ∷ r, refl, (at, origin, refl)), refl, refl),
+          ),
+        )) in
         (mark sign.CloseBracket ∷ name_token a_name ∷ mark sign.Equals ∷ zero_token ∷ mark sign.Semicolon ∷ c.0, c.1, c.2)
     completes (Stats ps st) whole h = stats_complete st ps whole h
     completes (Printing items next st) whole h =
         let t = token (Text []) origin in
         let c = completes (next (More items (TextItem []))) (λ r. whole (t ∷ mark sign.CloseParen ∷ r))
-            (λ r. let l = h (t ∷ mark sign.CloseParen ∷ r) in l.3 (More items (TextItem [])) origin r (omega (arith, l.1)) (t ∷ mark sign.CloseParen ∷ r, l.2, (origin, refl))) in
+        (λ r. let l = h (t ∷ mark sign.CloseParen ∷ r) in l.3 (More items (TextItem [])) origin r (omega (arith, l.1)) (t ∷ mark sign.CloseParen ∷ r, l.2, (origin, refl))) in
         (t ∷ mark sign.CloseParen ∷ c.0, c.1, c.2)
     completes (Tweaking tweaks next) whole h =
         let c = completes (next (More tweaks (action.Add origin a_name))) (λ r. whole (word_token word.Add ∷ name_token a_name ∷ mark sign.CloseBrace ∷ r))
-            (λ r. let l = h (word_token word.Add ∷ name_token a_name ∷ mark sign.CloseBrace ∷ r) in l.2 (More tweaks (action.Add origin a_name)) origin r (word_token word.Add ∷ name_token a_name ∷ mark sign.CloseBrace ∷ r, l.1, refl)) in
+        (λ r. let l = h (word_token word.Add ∷ name_token a_name ∷ mark sign.CloseBrace ∷ r) in l.2 (More tweaks (action.Add origin a_name)) origin r (word_token word.Add ∷ name_token a_name ∷ mark sign.CloseBrace ∷ r, l.1, refl)) in
         (word_token word.Add ∷ name_token a_name ∷ mark sign.CloseBrace ∷ c.0, c.1, c.2)
     completes (Acting actions more last) whole h =
         let c = completes (last (More actions (action.Add origin a_name))) (λ r. whole (word_token word.Add ∷ name_token a_name ∷ mark sign.CloseParen ∷ r))
-            (λ r. let l = h (word_token word.Add ∷ name_token a_name ∷ mark sign.CloseParen ∷ r) in l.3 (More actions (action.Add origin a_name)) origin r (word_token word.Add ∷ name_token a_name ∷ mark sign.CloseParen ∷ r, l.1, refl)) in
+        (λ r. let l = h (word_token word.Add ∷ name_token a_name ∷ mark sign.CloseParen ∷ r) in l.3 (More actions (action.Add origin a_name)) origin r (word_token word.Add ∷ name_token a_name ∷ mark sign.CloseParen ∷ r, l.1, refl)) in
         (word_token word.Add ∷ name_token a_name ∷ mark sign.CloseParen ∷ c.0, c.1, c.2)
     completes (Changing changes next) whole h =
         let x : Change = ChangeOf a_name (More Empty (action.Add origin a_name)) in
         let c = completes (next (More changes x)) (λ r. whole (name_token a_name ∷ mark sign.Colon ∷ word_token word.Add ∷ name_token a_name ∷ mark sign.CloseParen ∷ r))
-            (λ r. let l = h (name_token a_name ∷ mark sign.Colon ∷ word_token word.Add ∷ name_token a_name ∷ mark sign.CloseParen ∷ r) in
-            l.2 (More changes x) origin r (name_token a_name ∷ mark sign.Colon ∷ word_token word.Add ∷ name_token a_name ∷ mark sign.CloseParen ∷ r, l.1, (word_token word.Add ∷ name_token a_name ∷ mark sign.CloseParen ∷ r, origin, refl, (word_token word.Add ∷ name_token a_name ∷ mark sign.CloseParen ∷ r, refl, refl)))) in
+        (λ r. let l = h (name_token a_name ∷ mark sign.Colon ∷ word_token word.Add ∷ name_token a_name ∷ mark sign.CloseParen ∷ r) in
+        l.2 (More changes x) origin r (name_token a_name ∷ mark sign.Colon ∷ word_token word.Add ∷ name_token a_name ∷ mark sign.CloseParen ∷ r, l.1, (word_token word.Add ∷ name_token a_name ∷ mark sign.CloseParen ∷ r, origin, refl, (word_token word.Add ∷ name_token a_name ∷ mark sign.CloseParen ∷ r, refl, refl)))) in
         (name_token a_name ∷ mark sign.Colon ∷ word_token word.Add ∷ name_token a_name ∷ mark sign.CloseParen ∷ c.0, c.1, c.2)
     completes (Declaring formals next) whole h =
         let f : Formal = record { kind = one_type base.Int origin; name = a_name } in
         let c = completes (next (More formals f)) (λ r. whole (word_token word.Int ∷ name_token a_name ∷ mark sign.CloseParen ∷ r))
-            (λ r. let l = h (word_token word.Int ∷ name_token a_name ∷ mark sign.CloseParen ∷ r) in
-            l.2 (More formals f) origin r (word_token word.Int ∷ name_token a_name ∷ mark sign.CloseParen ∷ r, l.1, (name_token a_name ∷ mark sign.CloseParen ∷ r, refl, refl))) in
+        (λ r. let l = h (word_token word.Int ∷ name_token a_name ∷ mark sign.CloseParen ∷ r) in
+        l.2 (More formals f) origin r (word_token word.Int ∷ name_token a_name ∷ mark sign.CloseParen ∷ r, l.1, (name_token a_name ∷ mark sign.CloseParen ∷ r, refl, refl))) in
         (word_token word.Int ∷ name_token a_name ∷ mark sign.CloseParen ∷ c.0, c.1, c.2)
     completes (Parameters params next) whole h =
         let p : Param = ParamOf a_name a_name (FlagIs a_name) Empty in
         let c = completes (next (More params p)) (λ r. whole (name_token a_name ∷ name_token a_name ∷ word_token word.In ∷ name_token a_name ∷ mark sign.CloseParen ∷ r))
-            (λ r. let l = h (name_token a_name ∷ name_token a_name ∷ word_token word.In ∷ name_token a_name ∷ mark sign.CloseParen ∷ r) in
-            l.3 (More params p) origin r (omega (arith, l.1)) (name_token a_name ∷ name_token a_name ∷ word_token word.In ∷ name_token a_name ∷ mark sign.CloseParen ∷ r, l.2, (name_token a_name ∷ mark sign.CloseParen ∷ r, mark sign.CloseParen ∷ r, origin, refl, refl, refl))) in
+        (λ r. let l = h (name_token a_name ∷ name_token a_name ∷ word_token word.In ∷ name_token a_name ∷ mark sign.CloseParen ∷ r) in
+        l.3 (More params p) origin r (omega (arith, l.1)) (name_token a_name ∷ name_token a_name ∷ word_token word.In ∷ name_token a_name ∷ mark sign.CloseParen ∷ r, l.2, (name_token a_name ∷ mark sign.CloseParen ∷ r, mark sign.CloseParen ∷ r, origin, refl, refl, refl))) in
         (name_token a_name ∷ name_token a_name ∷ word_token word.In ∷ name_token a_name ∷ mark sign.CloseParen ∷ c.0, c.1, c.2)
     completes (Binding binds more last) whole h =
         let b : Bind = record { tag_type = a_name; variable = a_name } in
         let c = completes (last (More binds b)) (λ r. whole (name_token a_name ∷ name_token a_name ∷ mark sign.CloseParen ∷ r))
-            (λ r. let l = h (name_token a_name ∷ name_token a_name ∷ mark sign.CloseParen ∷ r) in l.3 (More binds b) origin r (name_token a_name ∷ name_token a_name ∷ mark sign.CloseParen ∷ r, l.1, refl)) in
+        (λ r. let l = h (name_token a_name ∷ name_token a_name ∷ mark sign.CloseParen ∷ r) in l.3 (More binds b) origin r (name_token a_name ∷ name_token a_name ∷ mark sign.CloseParen ∷ r, l.1, refl)) in
         (name_token a_name ∷ name_token a_name ∷ mark sign.CloseParen ∷ c.0, c.1, c.2)
     completes (WantFlag st) whole h =
         let c = closes_flag st (FlagIs a_name) (λ r. whole (name_token a_name ∷ r))
-            (λ r. let l = h (name_token a_name ∷ r) in (name_token a_name ∷ r, omega (arith, leads_level n (whole (name_token a_name ∷ r)) st (name_token a_name ∷ r) l.1), flag_room_down 0 1 st (omega arith) l.0, l.1, refl)) in
+        (λ r. let l = h (name_token a_name ∷ r) in (name_token a_name ∷ r, omega (arith, leads_level n (whole (name_token a_name ∷ r)) st (name_token a_name ∷ r) l.1), flag_room_down 0 1 st (omega arith) l.0, l.1, refl)) in
         (name_token a_name ∷ c.0, c.1, c.3)
     completes (AfterFlag g st) whole h =
         let c = closes_flag st g whole (λ r. let l = h r in (l.0, l.1, l.2, l.3, l.4)) in
@@ -258,24 +266,24 @@ module _ (n : ℕ) where
         (mark sign.CloseParen ∷ c.0, c.1, tt, refl, c.2)
     closes (InChain front st) (Call m a x args) whole h ready =
         let c = stats_complete st (Then front (Do (Call m a x args))) (λ r. whole (mark sign.Semicolon ∷ r))
-            (λ r. let l = h (mark sign.Semicolon ∷ r) in (l.4.0, omega (arith, l.1, l.4.2), l.4.3, l.4.4, (l.0, l.4.5, (origin, l.3.0, tt, l.5)))) in
+        (λ r. let l = h (mark sign.Semicolon ∷ r) in (l.4.0, omega (arith, l.1, l.4.2), l.4.3, l.4.4, (l.0, l.4.5, (origin, l.3.0, tt, l.5)))) in
         (mark sign.Semicolon ∷ c.0, c.1, tt, refl, c.2)
     closes (InChain front st) (Var x) whole h ready =
         let c = stats_complete st (Then front (Assign (Var x) a_zero)) (λ r. whole (mark sign.Equals ∷ zero_token ∷ mark sign.Semicolon ∷ r))
-            (λ r. let l = h (mark sign.Equals ∷ zero_token ∷ mark sign.Semicolon ∷ r) in (l.4.0, omega (arith, l.1, l.4.2), l.4.3, l.4.4, (l.0, l.4.5, (zero_token ∷ mark sign.Semicolon ∷ r, origin, origin, l.3.0, tt, l.5, refl)))) in
+        (λ r. let l = h (mark sign.Equals ∷ zero_token ∷ mark sign.Semicolon ∷ r) in (l.4.0, omega (arith, l.1, l.4.2), l.4.3, l.4.4, (l.0, l.4.5, (zero_token ∷ mark sign.Semicolon ∷ r, origin, origin, l.3.0, tt, l.5, refl)))) in
         (mark sign.Equals ∷ zero_token ∷ mark sign.Semicolon ∷ c.0, c.1, tt, refl, c.2)
     closes (InChain front st) (Field m a x) whole h ready =
         let c = stats_complete st (Then front (Assign (Field m a x) a_zero)) (λ r. whole (mark sign.Equals ∷ zero_token ∷ mark sign.Semicolon ∷ r))
-            (λ r. let l = h (mark sign.Equals ∷ zero_token ∷ mark sign.Semicolon ∷ r) in (l.4.0, omega (arith, l.1, l.4.2), l.4.3, l.4.4, (l.0, l.4.5, (zero_token ∷ mark sign.Semicolon ∷ r, origin, origin, l.3.0, tt, l.5, refl)))) in
+        (λ r. let l = h (mark sign.Equals ∷ zero_token ∷ mark sign.Semicolon ∷ r) in (l.4.0, omega (arith, l.1, l.4.2), l.4.3, l.4.4, (l.0, l.4.5, (zero_token ∷ mark sign.Semicolon ∷ r, origin, origin, l.3.0, tt, l.5, refl)))) in
         (mark sign.Equals ∷ zero_token ∷ mark sign.Semicolon ∷ c.0, c.1, tt, refl, c.2)
     closes (InChain front st) (Elem m a i) whole h ready =
         let c = stats_complete st (Then front (Assign (Elem m a i) a_zero)) (λ r. whole (mark sign.Equals ∷ zero_token ∷ mark sign.Semicolon ∷ r))
-            (λ r. let l = h (mark sign.Equals ∷ zero_token ∷ mark sign.Semicolon ∷ r) in (l.4.0, omega (arith, l.1, l.4.2), l.4.3, l.4.4, (l.0, l.4.5, (zero_token ∷ mark sign.Semicolon ∷ r, origin, origin, l.3.0, tt, l.5, refl)))) in
+        (λ r. let l = h (mark sign.Equals ∷ zero_token ∷ mark sign.Semicolon ∷ r) in (l.4.0, omega (arith, l.1, l.4.2), l.4.3, l.4.4, (l.0, l.4.5, (zero_token ∷ mark sign.Semicolon ∷ r, origin, origin, l.3.0, tt, l.5, refl)))) in
         (mark sign.Equals ∷ zero_token ∷ mark sign.Semicolon ∷ c.0, c.1, tt, refl, c.2)
     closes (InChain front st) _ whole h ready = absurd ready
     closes (InMade front st) e whole h ready =
         let c = stats_complete st (Then front (MakeDo e)) (λ r. whole (mark sign.Semicolon ∷ r))
-            (λ r. let l = h (mark sign.Semicolon ∷ r) in (l.4.0, omega (arith, l.1, l.4.2), l.4.3, l.4.4, (l.0, l.4.5, (origin, l.3, l.5)))) in
+        (λ r. let l = h (mark sign.Semicolon ∷ r) in (l.4.0, omega (arith, l.1, l.4.2), l.4.3, l.4.4, (l.0, l.4.5, (origin, l.3, l.5)))) in
         (mark sign.Semicolon ∷ c.0, c.1, tt, refl, c.2)
     closes _ e whole h ready = absurd (h []).3
 
@@ -288,7 +296,7 @@ module _ (n : ℕ) where
         (c.0, c.1, c.2, end_flag_two n op f g st c.0 (omega (arith, c.2, guard_low op)) ∙ c.3)
     closes_flag (InFlagGroup st) g whole h =
         let c = closes_flag st (FlagGroup g) (λ r. whole (mark sign.CloseParen ∷ r))
-            (λ r. let l = h (mark sign.CloseParen ∷ r) in (token (Mark sign.OpenParen) l.3.0 ∷ l.0, omega (arith, l.1), flag_room_down 0 1 st (omega arith) l.3.2, l.3.3, (l.0, l.3.0, origin, refl, l.4))) in
+        (λ r. let l = h (mark sign.CloseParen ∷ r) in (token (Mark sign.OpenParen) l.3.0 ∷ l.0, omega (arith, l.1), flag_room_down 0 1 st (omega arith) l.3.2, l.3.3, (l.0, l.3.0, origin, refl, l.4))) in
         (mark sign.CloseParen ∷ c.0, c.1, refl, c.3)
     closes_flag (Guarded bound more last) g whole h =
         let c = completes (last g) (λ r. whole (mark sign.CloseParen ∷ r)) (λ r. let l = h (mark sign.CloseParen ∷ r) in l.3.2 g origin r (omega (arith, l.1)) l.4) in

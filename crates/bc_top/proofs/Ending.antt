@@ -55,7 +55,7 @@ scans P limit out history [] failures h below e = record { course = stopped stop
 scans P limit out history (q ∷ qs) failures h below e =
     let at = can_run_at P.tasks q h below.0 in
     decide at.0 at.1 at.2 (nat_le (length out + length (text_of at.0.body.items)) 16777216) refl
-        (scans P limit out history qs (failures ++ record { v = on_startup q; fault = (full_failure P.tasks q).fault; touched = 0 ∷ [] } ∷ []) h below.1 e)
+    (scans P limit out history qs (failures ++ record { v = on_startup q; fault = (full_failure P.tasks q).fault; touched = 0 ∷ [] } ∷ []) h below.1 e)
   where
     tells : (t : Task) → slice_get P.tasks q ≡ Some t → has_room P.tasks (length out) q ≡ nat_le (length out + length (text_of t.body.items)) 16777216
     tells t at = ap (λ o. is_some_and o (λ u. nat_le (length out + length (text_of u.body.items)) 16777216)) at
@@ -105,8 +105,8 @@ has_turn : (n turn k : ℕ) → turn ≤ n → k < n → has k (turns_from n tur
 has_turn n turn k le lt =
     has-append k (range_with_len turn (n - turn)) (range_with_len 0 turn)
     ∙ ⊎_elim (λ later. let l : turn ≤ k = later.1 in ap (λ b. b || has k (range_with_len 0 turn)) (inside k turn (n - turn) l (omega arith)))
-        (λ earlier. ap (λ b. has k (range_with_len turn (n - turn)) || b) (inside k 0 turn (omega arith) (let l : k < turn = earlier.1 in omega arith)) ∙ or_true _)
-        (leb_tells turn k)
+    (λ earlier. ap (λ b. has k (range_with_len turn (n - turn)) || b) (inside k 0 turn (omega arith) (let l : k < turn = earlier.1 in omega arith)) ∙ or_true _)
+    (leb_tells turn k)
   where
     or_true : (b : Bool) → (b || true) ≡ true
     or_true true = refl
@@ -122,10 +122,11 @@ all_fault P out a (suc m) h le full =
     let at = can_run_at P.tasks a h (omega arith) in
     let rest = all_fault P out (a + 1) m h (omega arith) full in
     let no : nat_le (length out + length (text_of at.0.body.items)) 16777216 ≡ false = sym (ap (λ o. is_some_and o (λ u. nat_le (length out + length (text_of u.body.items)) 16777216)) at.1) ∙ full a (omega arith) in
-    let e : (outcome P S (on_startup a)).ran ≡ ran.Faulted (full_failure P.tasks a).fault = ap (λ o. o.ran) (faults_full P out a at.0 at.1 at.2 (leb-false _ _ no)) in
-    ((subst IsFault (sym e) tt, rest.0),
-     ap (λ x. cons_option (failure_of (on_startup a) x) (filter_map (λ v. failure_of v (outcome P S v).ran) (map on_startup (range_with_len (a + 1) m)))) e
-     ∙ ap (λ xs. full_failure P.tasks a ∷ xs) rest.1)
+    let e : (outcome P S (on_startup a)).ran ≡ ran.Faulted (full_failure P.tasks a).fault = ap (λ o. o.ran) (faults_full P out a at.0 at.1 at.2 (leb-false _ _ no)) in (
+      (subst IsFault (sym e) tt, rest.0),
+      ap (λ x. cons_option (failure_of (on_startup a) x) (filter_map (λ v. failure_of v (outcome P S v).ran) (map on_startup (range_with_len (a + 1) m)))) e
+          ∙ ap (λ xs. full_failure P.tasks a ∷ xs) rest.1,
+    )
 
 -- nothing is enabled any more
 pub ends_idle : (P : Parts) (limit turn count : ℕ) (f : Bool) (history : List Invocation) (out : List ℕ) → IsUnderWay P limit f turn history out count → queue_at (length P.tasks) f turn ≡ [] → all_enabled P (store_at f out) ≡ [] →
@@ -172,18 +173,19 @@ ends_at_limit P limit turn history out found h le u is =
     quiet None found e =
         let S = store_at true out in
         let all = all_enabled_at P true out h in
-        let full = all_fault P out 0 (length P.tasks) h (omega arith) (λ k lt. find_none (has_room P.tasks (length out)) (turns_from (length P.tasks) turn) k found (has_turn (length P.tasks) turn k le lt)) in
-        (subst (λ vs. All (λ v. IsFault (outcome P S v).ran) vs) (sym all) (All-from_recursion _ _ full.0),
-         sym full.1 ∙ sym (ap (filter_map (λ v. failure_of v (outcome P S v).ran)) all),
-         length-map-range_with_len (full_failure P.tasks) 0 (length P.tasks) ∙ sym (ap length all ∙ length-map-range_with_len on_startup 0 (length P.tasks)))
+        let full = all_fault P out 0 (length P.tasks) h (omega arith) (λ k lt. find_none (has_room P.tasks (length out)) (turns_from (length P.tasks) turn) k found (has_turn (length P.tasks) turn k le lt)) in (
+          subst (λ vs. All (λ v. IsFault (outcome P S v).ran) vs) (sym all) (All-from_recursion _ _ full.0),
+          sym full.1 ∙ sym (ap (filter_map (λ v. failure_of v (outcome P S v).ran)) all),
+          length-map-range_with_len (full_failure P.tasks) 0 (length P.tasks) ∙ sym (ap length all ∙ length-map-range_with_len on_startup 0 (length P.tasks)),
+        )
 
 -- the flag is cleared, or there are no tasks
 pub ends_over : (P : Parts) (limit turn count : ℕ) (set : Bool) (history : List Invocation) (out : List ℕ) → AllCanRun P.tasks → IsUnderWay P limit set turn history out count → set ≡ false ⊎ length P.tasks ≡ 0 →
     IsRunOf P limit history stop.End out []
 ends_over P limit turn count set history out h u over =
     ends_idle P limit turn count set history out u (⊎_elim (λ e. ap (λ f. queue_at (length P.tasks) f turn) e) no_queue over)
-        (⊎_elim (λ e. all_enabled_at P set out h ∙ ap (λ f. cond f (map on_startup (range_with_len 0 (length P.tasks))) []) e)
-            (λ e. all_enabled_at P set out h ∙ ap (λ n. cond set (map on_startup (range_with_len 0 n)) []) e ∙ nothing set) over)
+    (⊎_elim (λ e. all_enabled_at P set out h ∙ ap (λ f. cond f (map on_startup (range_with_len 0 (length P.tasks))) []) e)
+    (λ e. all_enabled_at P set out h ∙ ap (λ n. cond set (map on_startup (range_with_len 0 n)) []) e ∙ nothing set) over)
   where
     nothing : (f : Bool) → cond f (map on_startup (range_with_len 0 0)) [] ≡ []
     nothing true = refl

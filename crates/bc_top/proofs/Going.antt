@@ -130,4 +130,3 @@ goes_on P limit k count t history out h few small below lt at can u =
 
     next_below : (n k : ℕ) → k < n → next_turn n k < n
     next_below n k lt = next_of n k (nat_lt (k + 1) n) lt refl
-

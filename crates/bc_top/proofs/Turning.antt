@@ -39,8 +39,8 @@ pub inside : (k a m : ℕ) → a ≤ k → k < a + m → has k (range_with_len a
 inside k a zero le lt = absurd (omega arith)
 inside k a (suc m) le lt =
     ⊎_elim (λ same. ap (λ b. b || has k (range_with_len (a + 1) m)) same.0)
-        (λ other. ap (λ b. b || has k (range_with_len (a + 1) m)) other.0 ∙ inside k (a + 1) m (let ne : k ≢ a = other.1 in omega arith) (omega arith))
-        (eqb_tells k a)
+    (λ other. ap (λ b. b || has k (range_with_len (a + 1) m)) other.0 ∙ inside k (a + 1) m (let ne : k ≢ a = other.1 in omega arith) (omega arith))
+    (eqb_tells k a)
 
 outside : (k a m : ℕ) → k < a ⊎ a + m ≤ k → has k (range_with_len a m) ≡ false
 outside k a zero h = refl

@@ -83,7 +83,7 @@ abbrev pub AreClasses : List Class → Type 0
 AreClasses (c ∷ []) = IsStartupClass c
 AreClasses _ = ⊥
 
--- The program is that of these small tasks. Of a place nothing is said, since no small task faults.
+-- The program is that of these small tasks. Of places nothing is said.
 pub record IsProgramOf (P : Parts) (small : List SmallTask) : Type 0 where
   pub classes : AreClasses P.classes
   pub tag_types : P.tag_types ≡ []

@@ -208,7 +208,9 @@ fn idle(alloc: Global, course: Course) -> Run
     ensures failures { result.failures ≡ [] }
 {
     let Course {
-        history, output, ..
+        history,
+        output,
+        ..
     } = course;
     Run {
         history,
@@ -231,7 +233,10 @@ fn at_limit(alloc: Global, tasks: &[Task], course: Course) -> Result<Run, AllocE
     ensures stop { IfOk result (λ run. IsSmallStop run.stop) }
 {
     let Course {
-        turn, history, output, ..
+        turn,
+        history,
+        output,
+        ..
     } = course;
     match first_in_turn(tasks, turn, output.len()) {
         Some(next) => Ok(Run {

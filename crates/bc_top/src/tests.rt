@@ -10,11 +10,13 @@ use std::alloc::Global;
 use std::process::Abort;
 use std::test::Fail;
 
-const HELLO: &str = "task startup(StartupObject s in initialstate) {\n  print(\"hello\\n\");\n  taskexit(s: initialstate := false);\n}\n";
+const HELLO: &str =
+    "task startup(StartupObject s in initialstate) {\n  print(\"hello\\n\");\n  taskexit(s: initialstate := false);\n}\n";
 
 const AGAIN: &str = "task again(StartupObject s in initialstate) { print(\"x\"); }";
 
-const TURNS: &str = "task a(StartupObject s in initialstate) { print(\"a\"); }\ntask b(StartupObject s in initialstate) { print(\"b\"); }";
+const TURNS: &str =
+    "task a(StartupObject s in initialstate) { print(\"a\"); }\ntask b(StartupObject s in initialstate) { print(\"b\"); }";
 
 // What a call over objects in memory left.
 #[derive(Drop)]
@@ -74,7 +76,14 @@ fn expect(rt: &impl Abort, told: &Told, status: u8, out: &str, err: &str) {
 fn runs_programs(rt: HostRuntime) -> Result<(), Fail> {
     let alloc = rt.alloc();
     for (text, commits, status, out, err, committed) in [
-        (HELLO, "100", 0, "hello\n", "end: 1 committed, 0 failed\n", 1),
+        (
+            HELLO,
+            "100",
+            0,
+            "hello\n",
+            "end: 1 committed, 0 failed\n",
+            1,
+        ),
         ("", "1", 0, "", "end: 0 committed, 0 failed\n", 0),
         (AGAIN, "3", 3, "xxx", "spent: 3 committed\n", 3),
         (TURNS, "3", 3, "aba", "spent: 3 committed\n", 3),
@@ -131,7 +140,10 @@ fn tells_failed_writes_and_long_files(rt: HostRuntime) -> Result<(), Fail> {
 #[test]
 fn tells_a_full_output(rt: HostRuntime) -> Result<(), Fail> {
     let alloc = rt.alloc();
-    let mut text = List::from_slice(alloc, b"\n  task a(StartupObject s in initialstate){print(\"")?;
+    let mut text = List::from_slice(
+        alloc,
+        b"\n  task a(StartupObject s in initialstate){print(\"",
+    )?;
     for _ in 0..65_300 {
         text.push(b'x')?;
     }

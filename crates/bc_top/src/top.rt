@@ -155,11 +155,7 @@ fn read_command<F: Shelf>(
 }
 
 // What the call comes to before anything is written.
-fn answer<F: Shelf>(
-    alloc: Global,
-    words: &[Bytes],
-    shelf: &mut F,
-) -> Result<Finished, Refusal>
+fn answer<F: Shelf>(alloc: Global, words: &[Bytes], shelf: &mut F) -> Result<Finished, Refusal>
     ensures cause { MatchResult result (IsFinished words.now (F.told shelf.old)) (IsCause words.now (F.told shelf.old) (F.faults shelf.old) (F.faults shelf.new)) }
     ensures asked { AsksFile words.now (F.told shelf.old) (F.told shelf.new) }
     ensures count { F.faults shelf.old ≤ F.faults shelf.new }
@@ -192,7 +188,12 @@ fn tell_run<K: Sink, E: Sink>(finished: Finished, out: &mut K, err: &mut E) -> R
         (record { old = K.taken out.old; new = K.taken out.new; old_faults = K.faults out.old; new_faults = K.faults out.new })
         (record { old = E.taken err.old; new = E.taken err.new; old_faults = E.faults err.old; new_faults = E.faults err.new }) result }
 {
-    let status = if write_both(finished.output.as_slice(), finished.text.as_slice(), out, err) {
+    let status = if write_both(
+        finished.output.as_slice(),
+        finished.text.as_slice(),
+        out,
+        err,
+    ) {
         status_of(finished.stop)
     } else {
         WRITE_FAILED

@@ -202,12 +202,7 @@ fn header(text: &[u8]) -> Option<(&[u8], &[u8], &[u8])>
 }
 
 // A task that takes the startup object while its flag is set.
-fn small_task(
-    alloc: Global,
-    name: &[u8],
-    at: Place,
-    body: Vec<Stat>,
-) -> Result<Task, AllocError>
+fn small_task(alloc: Global, name: &[u8], at: Place, body: Vec<Stat>) -> Result<Task, AllocError>
     ensures { IfOk result (λ t. (steps : Sequence Step) → AreSteps body.items steps → IsSmallTask t (record { name = name.now; steps = steps })) }
 {
     let mut params = Vec::new(alloc);

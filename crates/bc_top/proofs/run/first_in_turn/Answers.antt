@@ -12,4 +12,4 @@ pub returns-in-None-clause-found : goal.returns-in-None-clause-found
 returns-in-None-clause-found c =
     let e : c.args.turn - 0 ≡ c.args.turn = omega arith in
     found_later (has_room c.args.tasks.now c.args.written) (range_with_len c.args.turn (length c.args.tasks.now - c.args.turn)) (range_with_len 0 c.args.turn) _ c.in-None.ensures.found
-        (c.first_with_room-in-None.ensures.found ∙ ap (λ n. find (has_room c.args.tasks.now c.args.written) (range_with_len 0 n)) e)
+    (c.first_with_room-in-None.ensures.found ∙ ap (λ n. find (has_room c.args.tasks.now c.args.written) (range_with_len 0 n)) e)

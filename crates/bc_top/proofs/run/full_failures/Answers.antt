@@ -9,4 +9,4 @@ loop-turn-preserved c =
     c.in_ok-push.ensures.ok
     ∙ ap (λ v. c.loop-turn.failures ++ record { v = v; fault = record { kind = fault.Output; at = c.index-tasks-turn.result.at } } ∷ []) c.on_startup.ensures
     ∙ one_more c.args.tasks.now c.loop-turn.turn c.index-tasks-turn.result c.loop-turn.failures
-        (slice_get_read c.args.tasks.now _ c.loop-turn.turn c.index-tasks-turn.result refl c.loop-turn-test.true c.index-tasks-turn.is) c.loop-turn.invariant
+    (slice_get_read c.args.tasks.now _ c.loop-turn.turn c.index-tasks-turn.result refl c.loop-turn-test.true c.index-tasks-turn.is) c.loop-turn.invariant

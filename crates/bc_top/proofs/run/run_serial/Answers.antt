@@ -13,7 +13,7 @@ loop-committed-init c = record {
 pub returns-then-is_over-clause-run : goal.returns-then-is_over-clause-run
 returns-then-is_over-clause-run c =
     over_ok c.args.program.now c.args.limit c.loop-committed._committed _ c.loop-committed.course c.idle.result c.requires.small c.tasks-tasks.ensures c.loop-committed.invariant.under_way
-        c.if-is_over.ensures.over c.idle.ensures.history c.idle.ensures.stop c.idle.ensures.output c.idle.ensures.failures
+    c.if-is_over.ensures.over c.idle.ensures.history c.idle.ensures.stop c.idle.ensures.output c.idle.ensures.failures
 
 pub loop-committed-preserved : goal.loop-committed-preserved
 loop-committed-preserved c =
@@ -29,7 +29,7 @@ loop-committed-preserved c =
 pub returns-then-is_over-2-clause-run : goal.returns-then-is_over-2-clause-run
 returns-then-is_over-2-clause-run c =
     over_ok c.args.program.now c.args.limit c.loop-committed._committed _ c.loop-committed.course c.idle-then-is_over-2.result c.requires.small c.tasks-tasks.ensures c.loop-committed.invariant.under_way
-        c.if-is_over-2.ensures.over c.idle-then-is_over-2.ensures.history c.idle-then-is_over-2.ensures.stop c.idle-then-is_over-2.ensures.output c.idle-then-is_over-2.ensures.failures
+    c.if-is_over-2.ensures.over c.idle-then-is_over-2.ensures.history c.idle-then-is_over-2.ensures.stop c.idle-then-is_over-2.ensures.output c.idle-then-is_over-2.ensures.failures
 
 pub at_limit-requires-clause-short : goal.at_limit-requires-clause-short
 at_limit-requires-clause-short c = rw c.tasks-tasks.ensures (all_short c.args.program.now.tasks c.requires.small)
@@ -41,5 +41,5 @@ returns-clause-run c =
     let under = c.loop-committed.invariant.under_way in
     let all : c.loop-committed._committed ≡ c.args.limit = omega arith in
     served_ok P c.args.limit _ c.loop-committed.course c.at_limit.result c.requires.small c.tasks-tasks.ensures on.0
-        (under.in_turn (subst (λ ts. 0 < length ts) c.tasks-tasks.ensures on.1)) (subst (λ n. IsServed P c.args.limit c.loop-committed.course n) all under)
-        c.at_limit.ensures.history c.at_limit.ensures.output c.at_limit.ensures.ended
+    (under.in_turn (subst (λ ts. 0 < length ts) c.tasks-tasks.ensures on.1)) (subst (λ n. IsServed P c.args.limit c.loop-committed.course n) all under)
+    c.at_limit.ensures.history c.at_limit.ensures.output c.at_limit.ensures.ended
