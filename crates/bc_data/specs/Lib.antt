@@ -1,3 +1,10 @@
 pub mod Ids
 pub mod Program
 pub mod Guard
+pub mod Spelling
+pub mod Lexical
+pub mod Seen
+pub mod SourceTree
+pub mod Grammar
+pub mod Refusal
+pub mod View

@@ -7,3 +7,5 @@ pub mod program;
 pub mod run;
 pub mod task_set;
 pub mod text;
+pub mod token;
+pub mod tree;

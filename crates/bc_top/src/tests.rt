@@ -131,7 +131,7 @@ fn tells_failed_writes_and_long_files(rt: HostRuntime) -> Result<(), Fail> {
 #[test]
 fn tells_a_full_output(rt: HostRuntime) -> Result<(), Fail> {
     let alloc = rt.alloc();
-    let mut text = List::from_slice(alloc, b"task a(StartupObject s in initialstate){print(\"")?;
+    let mut text = List::from_slice(alloc, b"\n  task a(StartupObject s in initialstate){print(\"")?;
     for _ in 0..65_300 {
         text.push(b'x')?;
     }
@@ -146,7 +146,7 @@ fn tells_a_full_output(rt: HostRuntime) -> Result<(), Fail> {
     assert_eq!(rt; out.taken().len(), 256 * 65_300);
     assert_eq!(rt;
         err.taken(),
-        b"end: 256 committed, 1 failed\nfailed: a(0): Output at 1:1\n".as_slice()
+        b"end: 256 committed, 1 failed\nfailed: a(0): Output at 2:3\n".as_slice()
     );
     Ok(())
 }

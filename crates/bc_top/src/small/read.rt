@@ -14,8 +14,27 @@ use bc_data::program::{Change, Class, Field, FlagExpr, Param, Part, Program, Sha
 use bc_data::run::Place;
 use std::alloc::{AllocError, Global};
 
-// No small task faults, so no place is ever told.
+// No `print` of the small form faults, so its place is never told.
 const NOWHERE: Place = Place { line: 1, column: 1 };
+
+// The place behind so many bytes of a text.
+fn place_behind(text: &[u8], len: usize) -> Place {
+    let mut place = NOWHERE;
+    for byte in text.iter().take(len) {
+        if *byte == b'\n' {
+            place.line = place.line.saturating_add(1);
+            place.column = 1;
+        } else {
+            place.column = place.column.saturating_add(1);
+        }
+    }
+    place
+}
+
+// The place of the first token of the rest of a text.
+fn place_of(text: &[u8], rest: &[u8]) -> Place {
+    place_behind(text, text.len().saturating_sub(past_spaces(rest).len()))
+}
 
 // `print(`
 fn print_front(text: &[u8]) -> Option<&[u8]>
@@ -183,7 +202,12 @@ fn header(text: &[u8]) -> Option<(&[u8], &[u8], &[u8])>
 }
 
 // A task that takes the startup object while its flag is set.
-fn small_task(alloc: Global, name: &[u8], body: Vec<Stat>) -> Result<Task, AllocError>
+fn small_task(
+    alloc: Global,
+    name: &[u8],
+    at: Place,
+    body: Vec<Stat>,
+) -> Result<Task, AllocError>
     ensures { IfOk result (λ t. (steps : Sequence Step) → AreSteps body.items steps → IsSmallTask t (record { name = name.now; steps = steps })) }
 {
     let mut params = Vec::new(alloc);
@@ -194,7 +218,7 @@ fn small_task(alloc: Global, name: &[u8], body: Vec<Stat>) -> Result<Task, Alloc
     })?;
     Ok(Task {
         name: List::from_slice(alloc, name)?,
-        at: NOWHERE,
+        at,
         params,
         variables: Vec::new(alloc),
         locals: 1,
@@ -204,7 +228,7 @@ fn small_task(alloc: Global, name: &[u8], body: Vec<Stat>) -> Result<Task, Alloc
 }
 
 #[tactic(auto, unfolding(crate::specs::SmallReading::task_at))]
-fn task(alloc: Global, text: &[u8]) -> Result<Option<(Task, &[u8])>, AllocError>
+fn task(alloc: Global, at: Place, text: &[u8]) -> Result<Option<(Task, &[u8])>, AllocError>
     ensures { Finds (λ x y. IsSmallTask x.0 y.0.1 × (x.1.now ≡ y.1)) result (task_at text.now) }
 {
     let Some((name, parameter, rest)) = header(text) else {
@@ -213,7 +237,7 @@ fn task(alloc: Global, text: &[u8]) -> Result<Option<(Task, &[u8])>, AllocError>
     let Some((body, rest)) = steps(alloc, parameter, rest)? else {
         return Ok(None);
     };
-    Ok(Some((small_task(alloc, name, body)?, rest)))
+    Ok(Some((small_task(alloc, name, at, body)?, rest)))
 }
 
 fn is_blank(text: &[u8]) -> bool
@@ -232,7 +256,7 @@ fn tasks(alloc: Global, most: u32, text: &[u8]) -> Result<Option<Vec<Task>>, All
         if is_blank(rest) {
             return Ok(Some(tasks));
         }
-        let Some((next, after)) = task(alloc, rest)? else {
+        let Some((next, after)) = task(alloc, place_of(text, rest), rest)? else {
             return Ok(None);
         };
         tasks.push(next)?;
@@ -327,7 +351,7 @@ pub fn one_program()
     ensures { (text : Sequence ℕ) (a b : Sequence SmallTask) → IsSmall text a → IsSmall text b → a ≡ b }
 {}
 
-/// A program has at most 256 tasks, and each prints less than the text has bytes.
+/// A program has at most 256 tasks, and each prints at most as many bytes as the text has.
 pub fn prints_little()
     ensures { (text : Sequence ℕ) (small : Sequence SmallTask) → IsSmall text small →
         (length small ≤ 256) × AllByRecursion (λ t. printed t.steps ≤ length text) small }
