@@ -20,7 +20,7 @@ use Rattle.bc_parse_expr.specs.Contract.{first_kind, reach_of, IsLinked, ChainIs
 use Rattle.bc_parse_expr.specs.declared.cursor.Close.{Close}
 use Rattle.bc_parse_expr.specs.declared.cursor.Close.TheVariants as close
 
-reach_lexeme : (text : List ℕ) (start stop : ℕ) (k : TokenKind) → reach (lexeme text start stop k) ≡ reach (lexeme [] 0 0 k)
+pub reach_lexeme : (text : List ℕ) (start stop : ℕ) (k : TokenKind) → reach (lexeme text start stop k) ≡ reach (lexeme [] 0 0 k)
 reach_lexeme text start stop (token_kind.Keyword w) = refl
 reach_lexeme text start stop token_kind.Name = refl
 reach_lexeme text start stop (token_kind.Number n) = refl
