@@ -1,0 +1,6 @@
+//! Readers of statements.
+#![tactic(auto)]
+
+pub mod exit;
+pub mod print;
+pub mod row;
