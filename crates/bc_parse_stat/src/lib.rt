@@ -1,6 +1,7 @@
 //! Readers of statements.
 #![tactic(auto)]
 
+pub mod chain;
 pub mod exit;
 pub mod print;
 pub mod row;
