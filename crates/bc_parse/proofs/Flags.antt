@@ -41,8 +41,7 @@ end_seen text op g k st ts h = end_flag_two 64 op g k st (seen text ts) (omega (
 group_step : (k : Lexeme) (g : Guard) (st : Stack) → 3 < flag_reach k → settle_flag k g (InFlagGroup st) ≡ (if same_mark sign.CloseParen k then On (AfterFlag (FlagGroup g) st) else No)
 group_step (Keyword word.And) g st h = absurd (omega arith)
 group_step (Keyword word.Or) g st h = absurd (omega arith)
-group_step (Keyword w) g st h = refl
-group_step (Mark s) g st h = refl
+group_step (Mark sign.CloseParen) g st h = refl
 group_step k g st h = refl
 
 pub group_end : (text : List ℕ) (g : Guard) (st : Stack) (ts : List Token) → 3 < flag_reach_of ts → run 64 (AfterFlag g (InFlagGroup st)) (seen text ts) ≡ run 64 (OnMark sign.CloseParen (λ _. AfterFlag (FlagGroup g) st) Never) (seen text ts)
@@ -53,8 +52,9 @@ guarded_step : (k : Lexeme) (g : Guard) (bound more last : Guard → State) → 
     → settle_flag k g (Guarded bound more last) ≡ (if same_mark sign.CloseParen k then On (last g) else (if same_mark sign.Comma k then On (more g) else (if same_word word.With k then On (bound g) else No)))
 guarded_step (Keyword word.And) g bound more last h = absurd (omega arith)
 guarded_step (Keyword word.Or) g bound more last h = absurd (omega arith)
-guarded_step (Keyword w) g bound more last h = refl
-guarded_step (Mark s) g bound more last h = refl
+guarded_step (Keyword word.With) g bound more last h = refl
+guarded_step (Mark sign.CloseParen) g bound more last h = refl
+guarded_step (Mark sign.Comma) g bound more last h = refl
 guarded_step k g bound more last h = refl
 
 pub guarded_end : (text : List ℕ) (g : Guard) (bound more last : Guard → State) (ts : List Token) → 3 < flag_reach_of ts

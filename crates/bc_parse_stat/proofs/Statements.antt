@@ -11,7 +11,7 @@ use Rattle.bc_data.specs.declared.token.Sign.TheVariants as sign
 use Rattle.bc_data.specs.declared.token.Token.{Token}
 use Rattle.bc_data.specs.declared.token.TokenKind.{TokenKind}
 use Rattle.bc_data.specs.declared.token.TokenKind.TheVariants as token_kind
-use Rattle.bc_grammar.specs.Machine.{Stack, InPrint, InMade, Body, InBlock, State, Never, OnMark, Want, After, Stats, Printing, Step, No, On, run, follow, step, not_link, stat, want, printing, print_behind, reach, same_mark}
+use Rattle.bc_grammar.specs.Machine.{Stack, InPrint, InMade, Body, InBlock, State, Never, OnMark, Want, After, Stats, Printing, Step, No, On, run, follow, step, not_link, stat, want, printing, print_behind, reach, same_mark, close_brace}
 use Rattle.bc_parse_expr.specs.Contract.{first_kind, reach_of}
 use Rattle.bc_parse_expr.proofs.Expressions.{reach_lexeme}
 use Rattle.bc_parse_stat.specs.Reading.{ClosesTo}
@@ -76,13 +76,10 @@ made_end text e front st (t ∷ ts) = ap (follow 64 t.at (λ s. run 64 s (seen t
 
 -- the `}` of statements
 
-brace_step : (k : Lexeme) (at : Place) (ps : Statements) (st : Stack) (onward : Statements → State) → ClosesTo st onward → stat k at ps st ≡ (if same_mark sign.CloseBrace k then On (onward ps) else stat k at ps st)
-brace_step (Mark sign.CloseBrace) at ps (Body next) onward h = ap (λ f. On (f ps)) h
-brace_step (Mark sign.CloseBrace) at ps (InBlock next st) onward h = ap (λ f. On (f ps)) h
-brace_step (Mark sign.CloseBrace) at ps _ onward h = absurd h
-brace_step (Mark s) at ps st onward h = refl
-brace_step k at ps st onward h = refl
+closed_step : (ps : Statements) (st : Stack) (onward : Statements → State) → ClosesTo st onward → close_brace ps st ≡ On (onward ps)
+closed_step ps (Body next) onward h = ap (λ f. On (f ps)) h
+closed_step ps (InBlock next st) onward h = ap (λ f. On (f ps)) h
+closed_step ps _ onward h = absurd h
 
-pub stats_row : (text : List ℕ) (ps : Statements) (st : Stack) (onward : Statements → State) (ts : List Token) → ClosesTo st onward → run 64 (Stats ps st) (seen text ts) ≡ run 64 (OnMark sign.CloseBrace (λ _. onward ps) (Stats ps st)) (seen text ts)
-stats_row text ps st onward [] h = refl
-stats_row text ps st onward (t ∷ ts) h = ap (follow 64 t.at (λ s. run 64 s (seen text ts))) (brace_step (lexeme text t.start t.end t.kind) t.at ps st onward h)
+pub closed : (text : List ℕ) (ps : Statements) (st : Stack) (onward : Statements → State) (t : Token) (ts : List Token) → t.kind ≡ token_kind.Mark sign.CloseBrace → ClosesTo st onward → run 64 (Stats ps st) (seen text (t ∷ ts)) ≡ run 64 (onward ps) (seen text ts)
+closed text ps st onward t ts e h = ap (follow 64 t.at (λ s. run 64 s (seen text ts))) (ap (λ k. stat (lexeme text t.start t.end k) t.at ps st) e ∙ closed_step ps st onward h)

@@ -5,3 +5,4 @@ pub mod chain;
 pub mod exit;
 pub mod print;
 pub mod row;
+pub mod statement;

@@ -87,8 +87,8 @@ fn row_statement<'a>(
     requires base { base ≤ 64 }
     requires this { keyword ≡ word.This → ⊥ }
     requires new { keyword ≡ word.New → ⊥ }
-    requires test { keyword ≡ word.If → ⊥ }
-    requires loop { keyword ≡ word.While → ⊥ }
+    requires branch { keyword ≡ word.If → ⊥ }
+    requires repeat { keyword ≡ word.While → ⊥ }
     ensures answers { (st : Stack) (front : Statements) → levels st ≡ base →
         Answers result (λ r. run 64 (Stats (Then front (view_stat r.tree)) st) (seen text.now r.rest.now)) (run 64 (Stats front st) (record { kind = Keyword keyword; at = at } ∷ seen text.now tokens.now)) }
     ensures shorter { IfOk result (λ r. length r.rest.now < length tokens.now) }

@@ -1,0 +1,15 @@
+use Rattle.std.proofs.Common.{sym, ◌∙◌}
+use Rattle.bc_data.specs.SourceTree.{Empty}
+use Rattle.bc_data.specs.Seen.{seen}
+use Rattle.bc_grammar.specs.Machine.{Items}
+use Rattle.bc_grammar.proofs.Exact.{unexpected, too_deep, not_cut}
+use Rattle.bc_parse.proofs.parse.Goals as goal
+
+pub returns-in-Err-Unexpected-clause-err : goal.returns-in-Err-Unexpected-clause-err
+returns-in-Err-Unexpected-clause-err c = unexpected 64 (seen c.args.text.now c.args.tokens.now) c.in-Err-Unexpected.at (rw c.in-Err-Unexpected.field-0-is at c.in-Err-Unexpected.ensures)
+
+pub returns-in-Err-TooDeep-clause-err : goal.returns-in-Err-TooDeep-clause-err
+returns-in-Err-TooDeep-clause-err c = too_deep 64 (seen c.args.text.now c.args.tokens.now) c.in-Err-TooDeep.at (rw c.in-Err-TooDeep.field-0-is at c.in-Err-TooDeep.ensures)
+
+pub returns-in-Err-Cut-clause-err : goal.returns-in-Err-Cut-clause-err
+returns-in-Err-Cut-clause-err c = absurd (not_cut 64 (Items Empty) (seen c.args.text.now c.args.tokens.now) c.requires (rw c.in-Err-Cut.field-0-is at c.in-Err-Cut.ensures))
