@@ -1,3 +1,3 @@
 pub mod Flags
 pub mod Sequences
-pub mod Ends
+pub mod Lexed

@@ -1,3 +1,2 @@
-
 pub mod Guards
 pub mod Fault

@@ -312,11 +312,7 @@ fn named_member<'a>(
     }
 }
 
-fn member<'a>(
-    alloc: Global,
-    text: &[u8],
-    tokens: &'a [Token],
-) -> Result<MemberRead<'a>, Fault>
+fn member<'a>(alloc: Global, text: &[u8], tokens: &'a [Token]) -> Result<MemberRead<'a>, Fault>
     requires brace { first_kind tokens.now ≡ token_kind.Mark sign.CloseBrace → ⊥ }
     ensures answers { (members : Sequence source.Member) (onward : Sequence source.Member → State) →
         Answers result (λ r. run 64 (Members (More members (view_member r.member)) onward) (seen text.now r.rest.now)) (run 64 (Members members onward) (seen text.now tokens.now)) }

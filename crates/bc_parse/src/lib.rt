@@ -19,6 +19,9 @@ use item::program;
 use std::alloc::Global;
 use thiserror::Error;
 
+#[cfg(test)]
+mod tests;
+
 /// Why tokens have no tree: the place of the first token behind which no tree within 64 levels continues. It is
 /// `TooDeep` where a tree without the limit continues behind that token.
 #[derive(Debug, Drop, Error)]

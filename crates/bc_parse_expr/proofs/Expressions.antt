@@ -1,21 +1,19 @@
 -- What the tokens behind an expression do.
-use Rattle.std.proofs.Common.{◌<◌, ◌≡◌, ℕ, List, [], ◌∷◌, ◌++◌, refl, ap, sym, subst, ◌∙◌, ◌+◌, ◌≤◌, arith, Bool, true, false, if◌then◌else◌}
-use Rattle.bc_data.specs.Seen.{Lexeme, Seen, Keyword, Name, Number, Text, Mark, End, lexeme, seen, seen_token}
-use Rattle.bc_data.specs.SourceTree.{Expression, Var, Field, Length, Elem, Call, Two, Expressions, Arg, height}
+use Rattle.std.proofs.Common.{◌<◌, ◌≡◌, ℕ, List, [], ◌∷◌, ◌++◌, refl, ap, ◌+◌, ◌≤◌, arith, false, if◌then◌else◌}
+use Rattle.bc_data.specs.Seen.{Lexeme, Mark, lexeme, seen, seen_token}
+use Rattle.bc_data.specs.SourceTree.{Expression, Var, Field, Two, Expressions, Arg, height}
 use Rattle.bc_data.specs.View.{view, views}
 use Rattle.bc_data.specs.Grammar.{sign_of, looseness}
 use Rattle.bc_data.specs.declared.run.Place.{Place}
 use Rattle.bc_data.specs.declared.program.Op.{Op}
 use Rattle.bc_data.specs.declared.tree.ExprText.{ExprText}
-use Rattle.bc_data.specs.declared.tree.Named.{Named}
 use Rattle.bc_data.specs.declared.token.Sign.{Sign}
 use Rattle.bc_data.specs.declared.token.Sign.TheVariants as sign
 use Rattle.bc_data.specs.declared.token.Token.{Token}
 use Rattle.bc_data.specs.declared.token.TokenKind.{TokenKind}
 use Rattle.bc_data.specs.declared.token.TokenKind.TheVariants as token_kind
-use Rattle.bc_grammar.specs.Machine.{Closer, Paren, Bracket, Semicolon, Stack, InNeg, InNot, InTwo, Inside, InArgs, InChain, State, Never, OnMark, OnWord, Want, Got, After, Step, No, On, levels, args_row, run, follow, step, link, not_link, settle, open_call, reach, kind_at, Room, NoCall, Unbracketed, same_mark, Refused, TooDeep}
-use Rattle.bc_grammar.proofs.Steps.{push_two, blocked_two, end_two, looseness_low, looseness_high}
-use Rattle.bc_grammar.proofs.Forward.{operand_unbracketed}
+use Rattle.bc_grammar.specs.Machine.{Paren, Bracket, Semicolon, Stack, InTwo, Inside, InArgs, InChain, State, Never, OnMark, Want, Got, After, No, On, levels, run, follow, link, not_link, open_call, reach, kind_at, Room, NoCall, Unbracketed, same_mark, Refused, TooDeep}
+use Rattle.bc_grammar.proofs.Steps.{push_two, blocked_two, end_two}
 use Rattle.bc_parse_expr.specs.Contract.{first_kind, reach_of, IsLinked, ChainIs, closer_of, closing_of}
 use Rattle.bc_parse_expr.specs.declared.cursor.Close.{Close}
 use Rattle.bc_parse_expr.specs.declared.cursor.Close.TheVariants as close

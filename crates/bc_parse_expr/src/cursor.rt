@@ -208,7 +208,11 @@ pub fn named(alloc: Global, text: &[u8], token: Token) -> Result<Named, Fault>
 }
 
 /// The name that has to come next.
-pub fn expect_name<'a>(alloc: Global, text: &[u8], tokens: &'a [Token]) -> Result<NameRead<'a>, Fault>
+pub fn expect_name<'a>(
+    alloc: Global,
+    text: &[u8],
+    tokens: &'a [Token],
+) -> Result<NameRead<'a>, Fault>
     ensures answers { (next : Named → State) →
         Answers result (λ r. run 64 (next r.name) (seen text.now r.rest.now)) (run 64 (OnName next Never) (seen text.now tokens.now)) }
     ensures shorter { IfOk result (λ r. length r.rest.now < length tokens.now) }

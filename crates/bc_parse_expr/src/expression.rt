@@ -13,9 +13,7 @@ ghost use Rattle.bc_parse_expr.specs.Contract.{Answers, Stops, IsMeasured, IsLin
 ghost use Rattle.bc_parse_expr.specs.declared.cursor.Fault.TheVariants.{Memory};
 
 use crate::actions::braces;
-use crate::cursor::{
-    Close, Fault, accept, check_level, closing, expect, named, next,
-};
+use crate::cursor::{Close, Fault, accept, check_level, closing, expect, named, next};
 use bc_data::program::Op;
 use bc_data::run::Place;
 use bc_data::token::{Sign, Token, TokenKind, Word};
@@ -449,7 +447,9 @@ fn dot_link<'a>(
             let name = named(alloc, text, token)?;
             field(alloc, text, dot.at, left, name, rest, base)
         }
-        TokenKind::Keyword(Word::Length) => length_link(alloc, dot.at, left, token, rest, base, chain),
+        TokenKind::Keyword(Word::Length) => length_link(
+            alloc, dot.at, left, token, rest, base, chain,
+        ),
         _ => Err(Fault::Unexpected(token.at)),
     }
 }
@@ -615,11 +615,32 @@ fn made<'a>(
             let name = named(alloc, text, kind)?;
             match accept(behind, Sign::OpenParen) {
                 Some(open) => object(alloc, text, token.at, name, open.rest, base),
-                None => array(alloc, text, token.at, plain(Base::Class(name.name), name.at), behind, base),
+                None => array(
+                    alloc,
+                    text,
+                    token.at,
+                    plain(Base::Class(name.name), name.at),
+                    behind,
+                    base,
+                ),
             }
         }
-        TokenKind::Keyword(Word::Int) => array(alloc, text, token.at, plain(Base::Int, kind.at), behind, base),
-        TokenKind::Keyword(Word::Bool) => array(alloc, text, token.at, plain(Base::Bool, kind.at), behind, base),
+        TokenKind::Keyword(Word::Int) => array(
+            alloc,
+            text,
+            token.at,
+            plain(Base::Int, kind.at),
+            behind,
+            base,
+        ),
+        TokenKind::Keyword(Word::Bool) => array(
+            alloc,
+            text,
+            token.at,
+            plain(Base::Bool, kind.at),
+            behind,
+            base,
+        ),
         _ => Err(Fault::Unexpected(kind.at)),
     }
 }

@@ -1,7 +1,6 @@
 //! Readers of tokens and expressions.
 #![tactic(auto)]
 
-pub mod cursor;
 pub mod actions;
+pub mod cursor;
 pub mod expression;
-

@@ -38,7 +38,13 @@ pub fn this_statement<'a>(
     ensures shorter { IfOk result (λ r. length r.rest.now < length tokens.now) }
 {
     check_level(base, 1, token.at)?;
-    let chain = links(alloc, text, leaf(ExprText::This(token.at), tokens), base + 1, true)?;
+    let chain = links(
+        alloc,
+        text,
+        leaf(ExprText::This(token.at), tokens),
+        base + 1,
+        true,
+    )?;
     behind_chain(alloc, text, chain, base)
 }
 
@@ -95,7 +101,13 @@ fn named_chain<'a>(
         Answers result (λ r. run 64 (Stats (Then front (view_stat r.tree)) st) (seen text.now r.rest.now)) (run 64 (Got (Var name) (InChain front st)) (seen text.now tokens.now)) }
     ensures shorter { IfOk result (λ r. length r.rest.now < length tokens.now) }
 {
-    let chain = links(alloc, text, leaf(ExprText::Name(name), tokens), base + 1, true)?;
+    let chain = links(
+        alloc,
+        text,
+        leaf(ExprText::Name(name), tokens),
+        base + 1,
+        true,
+    )?;
     behind_chain(alloc, text, chain, base)
 }
 
@@ -300,7 +312,14 @@ fn variable<'a>(
     match kind {
         ExprText::Name(kind) => {
             let name = named(alloc, text, token)?;
-            let_behind(alloc, text, plain(Base::Class(kind.name), kind.at), name, tokens, base)
+            let_behind(
+                alloc,
+                text,
+                plain(Base::Class(kind.name), kind.at),
+                name,
+                tokens,
+                base,
+            )
         }
         _ => Err(Fault::Unexpected(token.at)),
     }

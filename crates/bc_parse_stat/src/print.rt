@@ -79,7 +79,11 @@ fn print_item<'a>(
     let (token, behind) = next(tokens)?;
     match token.kind {
         TokenKind::Text => {
-            let bytes = spelled(text, token.start as usize + 1, (token.end as usize).saturating_sub(1));
+            let bytes = spelled(
+                text,
+                token.start as usize + 1,
+                (token.end as usize).saturating_sub(1),
+            );
             Ok(ItemRead {
                 item: ItemText::Text(meaning_of(alloc, bytes)?),
                 rest: behind,

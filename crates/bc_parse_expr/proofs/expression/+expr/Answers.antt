@@ -1,4 +1,4 @@
-use Rattle.std.proofs.Common.{◌<◌, ◌≡◌, ◌∙◌, ap, sym, subst, ◌∷◌, ◌≤◌, ◌+◌, ◌-◌, arith}
+use Rattle.std.proofs.Common.{◌≡◌, ◌∙◌, ap, sym, subst, ◌≤◌, ◌+◌, ◌-◌, arith}
 use Rattle.std.proofs.lemmas.Result.{err_from_is_err_and}
 use Rattle.bc_data.specs.Seen.{seen}
 use Rattle.bc_data.specs.SourceTree.{Two, height}
@@ -7,7 +7,7 @@ use Rattle.bc_data.specs.Grammar.{looseness}
 use Rattle.bc_grammar.specs.Machine.{After, InTwo, Room, levels, run}
 use Rattle.bc_grammar.proofs.Steps.{looseness_low}
 use Rattle.bc_parse_expr.specs.Contract.{Stops, first_kind, reach_of}
-use Rattle.bc_parse_expr.proofs.Expressions.{push_seen, blocked_seen, end_seen}
+use Rattle.bc_parse_expr.proofs.Expressions.{push_seen, end_seen}
 use Rattle.bc_parse_expr.proofs.expression.+expr.Goals as goal
 
 pub with_operator-returns-clause-answers : goal.with_operator-returns-clause-answers

@@ -1,4 +1,4 @@
-use Rattle.std.proofs.Common.{◌≡◌, ℕ, ◌+◌, ◌≤◌, ◌<◌, ◌∷◌, length, ◌-◌, ◌*◌}
+use Rattle.std.proofs.Common.{◌≡◌, ◌+◌, ◌≤◌, ◌<◌, length, ◌-◌, ◌*◌}
 use Rattle.bc_data.specs.Seen.{seen}
 use Rattle.bc_data.specs.SourceTree.{Expressions, NoArg, tallest}
 use Rattle.bc_data.specs.View.{view, views}
