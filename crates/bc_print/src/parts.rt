@@ -9,9 +9,7 @@ ghost use Rattle.bc_print.specs.Canonical.{truth_text, literal_byte, literal_byt
 use bc_data::list::Bytes;
 use bc_data::program::Op;
 use bc_data::text::decimal;
-use bc_data::tree::{
-    ActionText, Base, Bind, FlagText, Formal, Named, ParamText, TypeText,
-};
+use bc_data::tree::{ActionText, Base, Bind, FlagText, Formal, Named, ParamText, TypeText};
 use std::alloc::{AllocError, Global};
 
 /// What stands on one line.

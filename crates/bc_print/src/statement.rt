@@ -59,12 +59,7 @@ fn print_let(
     print_between(alloc, out, b" = ", e, b";\n")
 }
 
-fn print_tag(
-    out: &mut Bytes,
-    margin: &[u8],
-    x: &Named,
-    kind: &Named,
-) -> Result<(), AllocError>
+fn print_tag(out: &mut Bytes, margin: &[u8], x: &Named, kind: &Named) -> Result<(), AllocError>
     ensures { OnOk result (out.new ≡ out.old ++ line margin.now (codes "tag " ++ x.now.name ++ codes " = new tag(" ++ kind.now.name ++ codes ");")) }
 {
     out.extend_from_slice(margin)?;
