@@ -2,10 +2,12 @@
 #![tactic(auto)]
 
 mod expression;
+mod laws;
 mod parts;
 mod program;
 mod statement;
 #[cfg(test)]
 mod tests;
 
+pub use laws::places_are_not_written;
 pub use program::print_tree;
