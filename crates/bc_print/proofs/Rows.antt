@@ -1,5 +1,5 @@
 -- The lists that the code's trees hold, seen.
-use Rattle.std.proofs.Common.{◌≡◌, ℕ, List, [], ◌∷◌, Some, None, refl, ap, ◌∙◌}
+use Rattle.std.proofs.Common.{◌≡◌, Some, None, refl, ap, ◌∙◌}
 use Rattle.std.specs.declared.vec.Vec.{Vec}
 use Rattle.std.specs.declared.boxed.Box.{Box}
 use Rattle.std.specs.declared.alloc.Global.{Global}
@@ -12,7 +12,7 @@ use Rattle.bc_data.specs.declared.tree.Named.{Named}
 use Rattle.bc_data.specs.declared.tree.ActionText.{ActionText}
 use Rattle.bc_data.specs.declared.tree.ExprText.{ExprText, Row_of-ExprText, end_of-ExprText, more_of-ExprText, items-the_row-ExprText, items_hidden-the_row-ExprText-0}
 use Rattle.bc_data.specs.declared.tree.ExprText.TheVariants as expr
-use Rattle.bc_data.specs.declared.tree.StatText.{StatText, Row_of-StatText, end_of-StatText, more_of-StatText, Held-StatText-If-3, None', Some', items-the_row-StatText, items_hidden-the_row-StatText-0}
+use Rattle.bc_data.specs.declared.tree.StatText.{StatText, Row_of-StatText, end_of-StatText, more_of-StatText, Some', items-the_row-StatText, items_hidden-the_row-StatText-0}
 use Rattle.bc_data.specs.declared.tree.StatText.TheVariants as stat
 
 abbrev row_of : ExprText → (n : Count) × Row_of-ExprText n

@@ -1,5 +1,5 @@
 -- A text does not say the places of its tree.
-use Rattle.std.proofs.Common.{◌≡◌, ℕ, List, [], ◌++◌, None, Some, Option, refl, ap, sym, ◌∙◌}
+use Rattle.std.proofs.Common.{◌≡◌, ℕ, List, [], ◌++◌, None, Some, Option, refl, ap, ◌∙◌}
 use Rattle.std.specs.Prelude.{codes}
 use Rattle.bc_data.specs.SourceTree.{Sequence, Empty, More, Expression, Int, Truth, Null, This, Var, Group, Neg, Not, Two, Field, Length, Elem, Call, Make, Array, Expressions, NoArg, Arg, Guard, FlagIs, FlagTruth, FlagNot, FlagTwo, FlagGroup, PrintItem, TextItem, ValueItem, Change, ChangeOf, Statement, Let, NewTag, Assign, Do, MakeDo, Block, If, IfElse, While, Return, ReturnValue, Print, Assert, Exit, Statements, Nothing, Then, Method, MethodOf, Member, FlagMember, FieldMember, MethodMember, MakerMember, Param, ParamOf, Item, TagTypeItem, ClassItem, TaskItem}
 use Rattle.bc_data.specs.declared.tree.ActionText.{ActionText}
@@ -8,7 +8,7 @@ use Rattle.bc_data.specs.declared.tree.TypeText.{TypeText}
 use Rattle.bc_data.specs.declared.tree.Formal.{Formal}
 use Rattle.bc_data.specs.declared.tree.Bind.{Bind}
 use Rattle.bc_print.specs.Canonical.{each, ended, joined, action_text, tweaks_text, expression_text, arguments_text, ended_arguments, operator_text, base_text, guard_text, guard_operator_text, bind_text, binds_text, param_text, print_item_text, change_text, formal_text, line, deeper, braced, statement_text, statements_text, signature_text, result_text, method_text, maker_text, member_text, item_text, program_text}
-use Rattle.bc_print.specs.Laws.{mapped, unplaced, unplaced_name, unplaced_type, unplaced_formal, unplaced_bind, unplaced_action, unplaced_expression, unplaced_arguments, unplaced_guard, unplaced_print_item, unplaced_change, unplaced_statement, unplaced_statements, unplaced_result, unplaced_method, unplaced_member, unplaced_param, unplaced_item}
+use Rattle.bc_print.specs.Laws.{mapped, unplaced, unplaced_formal, unplaced_bind, unplaced_action, unplaced_expression, unplaced_arguments, unplaced_guard, unplaced_print_item, unplaced_change, unplaced_statement, unplaced_statements, unplaced_result, unplaced_method, unplaced_member, unplaced_param, unplaced_item}
 
 same_each : {A : Type 0} → (text : A → List ℕ) (f : A → A) → ((x : A) → text (f x) ≡ text x) → (s : Sequence A) → each text (mapped f s) ≡ each text s
 same_each text f h Empty = refl

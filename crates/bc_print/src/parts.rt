@@ -12,7 +12,7 @@ use bc_data::text::decimal;
 use bc_data::tree::{ActionText, Base, Bind, FlagText, Formal, Named, ParamText, TypeText};
 use std::alloc::{AllocError, Global};
 
-/// What stands on one line.
+/// A part of a line.
 pub trait Part {
     /// The text.
     ghost text: { Self → List ℕ };
@@ -49,6 +49,7 @@ pub fn print_joined<T: Part>(
     Ok(())
 }
 
+/// Appends a name.
 pub fn print_name(out: &mut Bytes, x: &Named) -> Result<(), AllocError>
     ensures { OnOk result (out.new ≡ out.old ++ x.now.name) }
 {
@@ -69,6 +70,7 @@ pub fn print_named(
     out.extend_from_slice(behind)
 }
 
+/// Appends a number in decimal.
 pub fn print_number(alloc: Global, out: &mut Bytes, n: i32) -> Result<(), AllocError>
     ensures { OnOk result (out.new ≡ out.old ++ signed_decimal n) }
 {
@@ -76,6 +78,7 @@ pub fn print_number(alloc: Global, out: &mut Bytes, n: i32) -> Result<(), AllocE
     out.extend_from_slice(digits.as_slice())
 }
 
+/// Appends `true` or `false`.
 pub fn print_truth(out: &mut Bytes, b: bool) -> Result<(), AllocError>
     ensures { OnOk result (out.new ≡ out.old ++ truth_text b) }
 {
@@ -116,6 +119,7 @@ pub fn print_literal(out: &mut Bytes, meaning: &[u8]) -> Result<(), AllocError>
     out.extend_from_slice(b"\"")
 }
 
+/// Appends a type without brackets.
 pub fn print_base(out: &mut Bytes, base: &Base) -> Result<(), AllocError>
     ensures { OnOk result (out.new ≡ out.old ++ base_text base.now) }
 {
@@ -126,6 +130,7 @@ pub fn print_base(out: &mut Bytes, base: &Base) -> Result<(), AllocError>
     }
 }
 
+/// Appends a type, with brackets where it is an array.
 pub fn print_type(out: &mut Bytes, kind: &TypeText) -> Result<(), AllocError>
     ensures { OnOk result (out.new ≡ out.old ++ type_text kind.now) }
 {

@@ -1,4 +1,4 @@
-use Rattle.std.proofs.Common.{◌≡◌, None, Some, ap, ◌∙◌, sym, refl, append_assoc}
+use Rattle.std.proofs.Common.{◌≡◌, ap, ◌∙◌, sym, refl, append_assoc}
 use Rattle.bc_data.specs.SourceTree.{Nothing, Block, While, If, IfElse}
 use Rattle.bc_data.specs.View.{view, view_stat, stat_views}
 use Rattle.bc_data.specs.declared.tree.StatText.TheVariants as stat
