@@ -1,5 +1,5 @@
 -- A text does not say the places of its tree.
-use Rattle.std.proofs.Common.{◌≡◌, ℕ, List, [], ◌++◌, None, Some, Option, refl, ap, ◌∙◌}
+use Rattle.std.proofs.Common.{◌≡◌, ℕ, List, [], ◌++◌, None, Some, Option, refl, ap, sym, ◌∙◌}
 use Rattle.std.specs.Prelude.{codes}
 use Rattle.bc_data.specs.SourceTree.{Sequence, Empty, More, Expression, Int, Truth, Null, This, Var, Group, Neg, Not, Two, Field, Length, Elem, Call, Make, Array, Expressions, NoArg, Arg, Guard, FlagIs, FlagTruth, FlagNot, FlagTwo, FlagGroup, PrintItem, TextItem, ValueItem, Change, ChangeOf, Statement, Let, NewTag, Assign, Do, MakeDo, Block, If, IfElse, While, Return, ReturnValue, Print, Assert, Exit, Statements, Nothing, Then, Method, MethodOf, Member, FlagMember, FieldMember, MethodMember, MakerMember, Param, ParamOf, Item, TagTypeItem, ClassItem, TaskItem}
 use Rattle.bc_data.specs.declared.tree.ActionText.{ActionText}
@@ -125,3 +125,6 @@ same_item (TaskItem at x params body) = ap (λ t. braced [] (codes "task " ++ x.
 
 pub same_program : (items : Sequence Item) → program_text (unplaced items) ≡ program_text items
 same_program items = same_each item_text unplaced_item same_item items
+
+pub same_text : (one two : Sequence Item) → unplaced one ≡ unplaced two → program_text one ≡ program_text two
+same_text one two h = sym (same_program one) ∙ ap program_text h ∙ same_program two

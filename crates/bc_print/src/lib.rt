@@ -9,5 +9,5 @@ mod statement;
 #[cfg(test)]
 mod tests;
 
-pub use laws::places_are_not_written;
+pub use laws::{literals_are_read, places_are_not_written};
 pub use program::print_tree;
