@@ -140,8 +140,9 @@ impl Pending {
         ensures held { self.new.held ≡ slice_set self.old.held worker None }
         ensures spare { self.old.spare ≤ self.new.spare }
     {
-        if let Some(v) = self.slots[worker as usize] {
-            self.slots[worker as usize] = None;
+        let slot = worker as usize;
+        if let Some(v) = self.slots[slot] {
+            self.slots[slot] = None;
             push_in(&mut self.items, v);
         }
     }

@@ -55,6 +55,7 @@ fn drop_counted<L: Ledger>(pending: &mut Pending, id: u32, test: &OfTask, blank:
     requires name { blank.name ≡ L.name }
     requires parts { blank.parts ≡ L.parts }
     requires some { 0 < L.parts }
+    ensures { pending.new.held ≡ pending.old.held }
 {
     let mut steps = Steps::<L>::new(blank);
     pending.drop_of(id, test, &mut steps);

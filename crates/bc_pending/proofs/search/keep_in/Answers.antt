@@ -13,13 +13,13 @@ loop-at-preserved g c =
     let steps = counted_more (stays c.args.id (g.T.Keep.keeps c.args.test.now)) (names c.args.id) c.args.items.now.items c.loop-at.items.items c.loop-at.kept c.loop-at.at c.index.result.now _ _ _ c.loop-at.invariant.filtered there c.index.ensures c.loop-at.invariant.steps c.is_kept.ensures.steps in
     elim c.if-is_kept.branch [
       | goal.then-is_kept w ↦ rw (w.items-is, w.kept-is) record {
-        filtered = FiltersInPlace-more_swap c.loop-at.invariant.filtered here (sym c.is_kept.ensures.value ∙ w.if-is_kept.true) c.index.ensures w.swap.ensures.by_index;
+        filtered = FiltersInPlace-more_swap {p = stays c.args.id (g.T.Keep.keeps c.args.test.now)} c.loop-at.invariant.filtered here (sym c.is_kept.ensures.value ∙ w.if-is_kept.true) c.index.ensures w.swap.ensures.by_index;
         len = w.swap.ensures.len ∙ c.loop-at.invariant.len;
         capacity = w.swap.ensures.capacity ∙ c.loop-at.invariant.capacity;
         steps = steps;
       }
       | goal.else-is_kept w ↦ rw (w.items-is, w.kept-is) record {
-        filtered = FiltersInPlace-more_no c.loop-at.invariant.filtered here (sym c.is_kept.ensures.value ∙ w.if-is_kept.false) c.index.ensures;
+        filtered = FiltersInPlace-more_no {p = stays c.args.id (g.T.Keep.keeps c.args.test.now)} c.loop-at.invariant.filtered here (sym c.is_kept.ensures.value ∙ w.if-is_kept.false) c.index.ensures;
         len = c.loop-at.invariant.len;
         capacity = c.loop-at.invariant.capacity;
         steps = steps;
