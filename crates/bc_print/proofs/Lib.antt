@@ -1,0 +1,4 @@
+pub mod Lists
+pub mod Literals
+pub mod Rows
+pub mod Unplaced
