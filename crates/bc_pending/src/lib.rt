@@ -1,0 +1,9 @@
+//! The pending list: the invocations that wait, in order, and the one that each worker holds.
+#![tactic(auto)]
+
+pub mod keep;
+pub mod pending;
+mod search;
+pub mod steps;
+#[cfg(test)]
+mod tests;

@@ -1,0 +1,97 @@
+// Calls in a row, with ample memory.
+
+ghost use Rattle.std.specs.Prelude.{◌≡◌, ◌<◌, [], ◌∷◌, IfOk, None, replicate};
+
+use crate::keep::Keep;
+use crate::pending::Pending;
+use crate::steps::Steps;
+use bc_data::ids::Ids;
+use bc_data::list::List;
+use bc_data::run::Invocation;
+use bc_data::task_set::TaskSet;
+use std::alloc::{AllocError, Global};
+use std::marker::Brand;
+use std::sync::ledger::{Blank, Ledger};
+use std::test::Fail;
+
+fn one(task: u32, object: u32) -> Invocation
+    ensures { result ≡ record { task = task; objects = object ∷ []; tags = [] } }
+{
+    Invocation {
+        task,
+        objects: Ids::from_slice(&[object]),
+        tags: Ids::none(),
+    }
+}
+
+// Three invocations of two tasks, and two workers.
+fn filled(alloc: Global) -> Result<Pending, AllocError>
+    ensures listed { IfOk result (λ p. p.listed ≡ record { task = 0; objects = 5 ∷ []; tags = [] } ∷ record { task = 1; objects = 5 ∷ []; tags = [] } ∷ record { task = 1; objects = 7 ∷ []; tags = [] } ∷ []) }
+    ensures held { IfOk result (λ p. p.held ≡ replicate 2 None) }
+{
+    let more = List::from_slice(alloc, &[one(0, 5), one(1, 5), one(1, 7)])?;
+    let mut pending = Pending::make(alloc, 2)?;
+    pending.reserve(3)?;
+    pending.append_sorted(&more);
+    Ok(pending)
+}
+
+// Keeps those of the task.
+struct OfTask {
+    task: u32,
+}
+
+impl Keep for OfTask {
+    ghost use Rattle.std.specs.Prelude.{◌==◌};
+
+    ghost keeps = { λ t v. v.task == t.task };
+
+    fn keep(&self, v: Invocation) -> bool {
+        v.task == self.task
+    }
+}
+
+fn drop_counted<L: Ledger>(pending: &mut Pending, id: u32, test: &OfTask, blank: Blank)
+    requires name { blank.name ≡ L.name }
+    requires parts { blank.parts ≡ L.parts }
+    requires some { 0 < L.parts }
+    ensures { pending.new.held ≡ pending.old.held }
+{
+    let mut steps = Steps::<L>::new(blank);
+    pending.drop_of(id, test, &mut steps);
+}
+
+#[test]
+fn takes_the_first_of_a_task(rt: HostRuntime) -> Result<(), Fail> {
+    let mut pending = filled(rt.alloc())?;
+    let tasks = TaskSet::none().with(1);
+    assert_eq!(rt; pending.take_first_of(0, &tasks), Some(one(1, 5)));
+    assert_eq!(rt; pending.held(0), Some(one(1, 5)));
+    assert_eq!(rt; pending.held(1), None);
+    assert_eq!(rt; pending.take_first_of(1, &TaskSet::none().with(2)), None);
+    Ok(())
+}
+
+#[test]
+fn puts_back_to_the_end(rt: HostRuntime) -> Result<(), Fail> {
+    let mut pending = filled(rt.alloc())?;
+    assert!(rt; pending.take_this(0, one(0, 5)));
+    assert!(rt; !pending.take_this(1, one(0, 5)));
+    pending.put_back(0);
+    assert!(rt; pending.take_this(0, one(1, 5)));
+    pending.forget(0);
+    assert_eq!(rt; pending.take_first_of(0, &TaskSet::all()), Some(one(1, 7)));
+    assert_eq!(rt; pending.take_first_of(1, &TaskSet::all()), Some(one(0, 5)));
+    assert!(rt; pending.is_empty());
+    Ok(())
+}
+
+#[test]
+fn drops_what_names_the_object(rt: HostRuntime) -> Result<(), Fail> {
+    let mut pending = filled(rt.alloc())?;
+    drop_counted::<Brand>(&mut pending, 5, &OfTask { task: 1 }, Blank::new(1));
+    assert_eq!(rt; pending.take_first_of(0, &TaskSet::all()), Some(one(1, 5)));
+    assert_eq!(rt; pending.take_first_of(1, &TaskSet::all()), Some(one(1, 7)));
+    assert!(rt; pending.is_empty());
+    Ok(())
+}
