@@ -1,0 +1,8 @@
+//! The failures: the invocations that faulted, each with its fault and the objects that it touched.
+#![tactic(auto)]
+
+pub mod entry;
+pub mod failures;
+mod order;
+#[cfg(test)]
+mod tests;
