@@ -1,14 +1,2 @@
-pub mod Turns
-pub mod Enabling
-pub mod Performing
-pub mod Turning
-pub mod Going
-pub mod Ending
-pub mod Rooms
-pub mod Serving
 pub mod Commanding
-pub mod Qualifying
-pub mod SmallLex
-pub mod SmallLoop
-pub mod SmallTokens
-pub mod SmallLaws
+pub mod Reading

@@ -1,20 +1,33 @@
 -- Command lines.
 use Rattle.std.specs.Prelude.{◌≡◌, ℕ, ◌≤◌, List, [], ◌∷◌, codes}
 use Rattle.std.specs.Fmt.{decimal}
+use Rattle.bc_top.specs.declared.commands.Command.{Command}
+use Rattle.bc_top.specs.declared.commands.Command.TheVariants as command
 
--- `serial FILE COMMITS`
-pub data Command : Type 0 where
-  Serial : (file : List ℕ) (commits : ℕ) → Command
-
-abbrev pub words_of : Command → List (List ℕ)
-words_of (Serial file commits) = codes "serial" ∷ file ∷ decimal commits ∷ []
+-- `serial FILE COMMITS` and `show FILE`
+abbrev pub words_of : Command → List ℕ → List (List ℕ)
+words_of (command.Serial commits) file = codes "serial" ∷ file ∷ decimal commits ∷ []
+words_of command.Show file = codes "show" ∷ file ∷ []
 
 abbrev pub IsInRange : Command → Type 0
-IsInRange (Serial file commits) = (1 ≤ commits) × (commits ≤ 256)
+IsInRange (command.Serial commits) = (1 ≤ commits) × (commits ≤ 256)
+IsInRange command.Show = Unit {0}
 
--- the words are the command's, with its numbers in their range
-abbrev pub IsCommand : List (List ℕ) → Command → Type 0
-IsCommand words command = (words ≡ words_of command) × IsInRange command
+-- how many bytes the file may have
+abbrev pub file_limit : Command → ℕ
+file_limit (command.Serial commits) = 65536
+file_limit command.Show = 1048576
+
+-- the words are the command's on that file, with its numbers in their range
+abbrev pub IsCommand : List (List ℕ) → Command → List ℕ → Type 0
+IsCommand words c file = (words ≡ words_of c file) × IsInRange c
 
 abbrev pub IsNoCommand : List (List ℕ) → Type 0
-IsNoCommand words = (command : Command) → IsCommand words command → ⊥
+IsNoCommand words = (c : Command) (file : List ℕ) → IsCommand words c file → ⊥
+
+-- the same of one command alone
+abbrev pub IsNoSerial : List (List ℕ) → Type 0
+IsNoSerial words = (commits : ℕ) (file : List ℕ) → IsCommand words (command.Serial commits) file → ⊥
+
+abbrev pub IsNoShow : List (List ℕ) → Type 0
+IsNoShow words = (file : List ℕ) → IsCommand words command.Show file → ⊥

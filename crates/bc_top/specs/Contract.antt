@@ -1,20 +1,28 @@
 -- What the top call answers, and why.
 use Rattle.std.specs.Prelude.{◌≡◌, ◌⊎◌, ℕ, ◌<◌, ◌≤◌, List, [], length, Option, Some, None, IfSome, IsSomeAnd}
 use Rattle.bc_data.specs.Program.{Parts}
+use Rattle.bc_data.specs.SourceTree.{Sequence, Item}
 use Rattle.bc_data.specs.declared.run.Invocation.{Invocation}
+use Rattle.bc_data.specs.declared.run.Place.{Place}
 use Rattle.bc_data.specs.declared.run.Stop.{Stop}
 use Rattle.bc_data.specs.declared.run.Stop.TheVariants as stop
 use Rattle.bc_base.specs.Outside.{Rose, Appends, AppendsPart}
 use Rattle.bc_base.specs.Files.{Told, file_of, with_asked}
-use Rattle.bc_top.specs.declared.run.Failure.{Failure}
+use Rattle.bc_print.specs.Canonical.{program_text}
+use Rattle.bc_small.specs.Small.{SmallTask, IsProgramOf}
+use Rattle.bc_small.specs.SmallText.{IsSmall}
+use Rattle.bc_serial.specs.Run.{IsRunOf}
+use Rattle.bc_serial.specs.declared.run.Failure.{Failure}
+use Rattle.bc_top.specs.declared.answer.Answer.{Answer}
+use Rattle.bc_top.specs.declared.answer.Refusal.{Refusal}
+use Rattle.bc_top.specs.declared.answer.Refusal.TheVariants as refusal
+use Rattle.bc_top.specs.declared.commands.Command.{Command}
+use Rattle.bc_top.specs.declared.commands.Command.TheVariants as command
+use Rattle.bc_top.specs.declared.reader.RefusedKind.{RefusedKind}
+use Rattle.bc_top.specs.declared.reader.RefusedKind.TheVariants as kind
 use Rattle.bc_top.specs.declared.top.Report.{Report}
-use Rattle.bc_top.specs.declared.top.Finished.{Finished}
-use Rattle.bc_top.specs.declared.top.Refusal.{Refusal}
-use Rattle.bc_top.specs.declared.top.Refusal.TheVariants as refusal
-use Rattle.bc_top.specs.Commands.{Command, Serial, IsCommand, IsNoCommand}
-use Rattle.bc_top.specs.Small.{SmallTask, IsProgramOf}
-use Rattle.bc_top.specs.SmallText.{IsSmall}
-use Rattle.bc_top.specs.Run.{IsRunOf}
+use Rattle.bc_top.specs.Commands.{IsCommand, IsNoCommand, file_limit}
+use Rattle.bc_top.specs.Reading.{IsText, IsRefused}
 use Rattle.bc_top.specs.Texts.{stop_text, words_text, read_text, write_text, long_text, refused_text, memory_text}
 
 -- the status of a run that stopped so
@@ -24,18 +32,44 @@ status_of (stop.Spent v) = 3
 status_of (stop.Crowded v) = 4
 status_of stop.Memory = 9
 
--- The run of a text: the text is a program of the small form, and the run is that program's.
-pub record Serves (text : List ℕ) (commits : ℕ) (f : Finished) : Type 0 where
+-- A run is told: its status, its history, its stop, its output and what is told of its end.
+abbrev pub answer_of_run : Parts → List Invocation → Stop → List ℕ → List Failure → Answer
+answer_of_run program history stop output failures = record { status = status_of stop; history = history; stop = Some stop; out = output; err = stop_text program stop (length history) failures }
+
+-- a text alone is written
+abbrev pub answer_of_text : List ℕ → Answer
+answer_of_text text = record { status = 0; history = []; stop = None; out = text; err = [] }
+
+-- a program's text is refused
+abbrev pub answer_of_fault : RefusedKind → Place → Answer
+answer_of_fault kind at = record { status = 1; history = []; stop = None; out = []; err = refused_text kind at }
+
+-- The text is a program of the small form, and the answer tells that program's serial run.
+pub record Serves (text : List ℕ) (commits : ℕ) (a : Answer) : Type 0 where
   pub small : List SmallTask
   pub spelled : IsSmall text small
   pub program : Parts
   pub translated : IsProgramOf program small
+  pub stop : Stop
   pub failures : List Failure
-  pub run : IsRunOf program commits f.history f.stop f.output failures
-  pub told : f.text ≡ stop_text program f.stop (length f.history) failures
+  pub run : IsRunOf program commits a.history stop a.out failures
+  pub told : a ≡ answer_of_run program a.history stop a.out failures
 
 abbrev pub IsNotSmall : List ℕ → Type 0
 IsNotSmall text = (small : List SmallTask) → IsSmall text small → ⊥
+
+-- The text has a tree, and the answer is its canonical text.
+abbrev pub Shows : List ℕ → Answer → Type 0
+Shows text a = (items : Sequence Item) × IsText text items × (a ≡ answer_of_text (program_text items))
+
+-- The text has no tree, and the answer tells its one fault.
+abbrev pub Refuses : List ℕ → Answer → Type 0
+Refuses text a = (kind : RefusedKind) × (at : Place) × IsRefused text kind at × (a ≡ answer_of_fault kind at)
+
+-- What a command makes of the text of its file. A text that is no small program is refused by `serial` without a place.
+abbrev pub IsMadeOf : Command → List ℕ → Answer → Type 0
+IsMadeOf (command.Serial commits) text a = Serves text commits a ⊎ (IsNotSmall text × (a ≡ answer_of_fault kind.Unexpected (record { line = 1; column = 1 })))
+IsMadeOf command.Show text a = Shows text a ⊎ Refuses text a
 
 -- where the shelf tells its files, this is the content of that name
 abbrev pub IsFile : Option Told → List ℕ → List ℕ → Type 0
@@ -45,70 +79,46 @@ IsFile told file text = IfSome told (λ t. file_of t.files file ≡ Some text)
 abbrev pub IsLongFile : Option Told → List ℕ → ℕ → Type 0
 IsLongFile told file limit = IfSome told (λ t. IsSomeAnd (file_of t.files file) (λ text. limit < length text))
 
--- The command ran: the words are the command's, the file was read, and its text was run.
-pub record IsFinished (words : List (List ℕ)) (told : Option Told) (f : Finished) : Type 0 where
+-- The words are a command's, its file was read, and the answer is what the command makes of its text.
+pub record IsMade (words : List (List ℕ)) (told : Option Told) (a : Answer) : Type 0 where
+  pub command : Command
   pub file : List ℕ
-  pub commits : ℕ
-  pub command : IsCommand words (Serial file commits)
+  pub is : IsCommand words command file
   pub text : List ℕ
   pub content : IsFile told file text
-  pub within : length text ≤ 65536
-  pub served : Serves text commits f
-
--- A file that the command names, whatever else is known.
-pub record IsRefusedText (words : List (List ℕ)) (told : Option Told) : Type 0 where
-  pub file : List ℕ
-  pub commits : ℕ
-  pub command : IsCommand words (Serial file commits)
-  pub text : List ℕ
-  pub content : IsFile told file text
-  pub within : length text ≤ 65536
-  pub not_small : IsNotSmall text
+  pub within : length text ≤ file_limit command
+  pub made : IsMadeOf command text a
 
 -- The cause of each refusal; the numbers are the shelf's count of faults before and after. Want of memory has none.
 abbrev pub IsCause : List (List ℕ) → Option Told → ℕ → ℕ → Refusal → Type 0
 IsCause words told old new refusal.NoCommand = IsNoCommand words
-IsCause words told old new refusal.ReadFailed = (file : List ℕ) × (commits : ℕ) × IsCommand words (Serial file commits) × Rose old new
-IsCause words told old new refusal.TooLong = (file : List ℕ) × (commits : ℕ) × IsCommand words (Serial file commits) × IsLongFile told file 65536
-IsCause words told old new refusal.Refused = IsRefusedText words told
+IsCause words told old new refusal.ReadFailed = (c : Command) × (file : List ℕ) × IsCommand words c file × Rose old new
+IsCause words told old new refusal.TooLong = (c : Command) × (file : List ℕ) × IsCommand words c file × IsLongFile told file (file_limit c)
 IsCause words told old new refusal.Memory = Unit {0}
 
 -- The shelf was asked for the command's file, once, or for nothing.
 abbrev pub AsksFile : List (List ℕ) → Option Told → Option Told → Type 0
-AsksFile words old new = new ≡ old ⊎ ((file : List ℕ) × (commits : ℕ) × IsCommand words (Serial file commits) × (new ≡ with_asked old file))
-
--- what stands before anything is written
-pub record Answer : Type 0 where
-  pub status : ℕ
-  pub history : List Invocation
-  pub stop : Option Stop
-  pub out : List ℕ
-  pub err : List ℕ
+AsksFile words old new = new ≡ old ⊎ ((c : Command) × (file : List ℕ) × IsCommand words c file × (new ≡ with_asked old file))
 
 abbrev pub message_of : Refusal → List ℕ
 message_of refusal.NoCommand = words_text
 message_of refusal.ReadFailed = read_text
 message_of refusal.TooLong = long_text
-message_of refusal.Refused = refused_text
 message_of refusal.Memory = memory_text
 
 abbrev pub status_of_refusal : Refusal → ℕ
 status_of_refusal refusal.NoCommand = 2
 status_of_refusal refusal.ReadFailed = 6
 status_of_refusal refusal.TooLong = 8
-status_of_refusal refusal.Refused = 1
 status_of_refusal refusal.Memory = 9
 
 abbrev pub answer_of_refusal : Refusal → Answer
 answer_of_refusal r = record { status = status_of_refusal r; history = []; stop = None; out = []; err = message_of r }
 
-abbrev pub answer_of_run : Finished → Answer
-answer_of_run f = record { status = status_of f.stop; history = f.history; stop = Some f.stop; out = f.output; err = f.text }
-
--- An answer with its cause: a run, or a refusal.
+-- An answer with its cause: what the command makes of its file, or a refusal.
 abbrev pub IsAnswer : List (List ℕ) → Option Told → ℕ → ℕ → Answer → Type 0
 IsAnswer words told old new a =
-    ((f : Finished) × IsFinished words told f × (a ≡ answer_of_run f))
+    IsMade words told a
     ⊎ ((r : Refusal) × IsCause words told old new r × (a ≡ answer_of_refusal r))
 
 -- a sink before and after: what it took, where it tells that, and its count of faults

@@ -1,7 +1,4 @@
-pub mod Small
-pub mod Run
 pub mod Texts
 pub mod Commands
-pub mod SmallText
-pub mod SmallReading
+pub mod Reading
 pub mod Contract

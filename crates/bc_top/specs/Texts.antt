@@ -10,7 +10,9 @@ use Rattle.bc_data.specs.declared.run.FaultKind.TheVariants as fault
 use Rattle.bc_data.specs.declared.run.Place.{Place}
 use Rattle.bc_data.specs.declared.run.Stop.{Stop}
 use Rattle.bc_data.specs.declared.run.Stop.TheVariants as stop
-use Rattle.bc_top.specs.declared.run.Failure.{Failure}
+use Rattle.bc_serial.specs.declared.run.Failure.{Failure}
+use Rattle.bc_top.specs.declared.reader.RefusedKind.{RefusedKind}
+use Rattle.bc_top.specs.declared.reader.RefusedKind.TheVariants as refused
 
 abbrev pub line_feed : List ℕ
 line_feed = 10 ∷ []
@@ -95,6 +97,14 @@ write_text = codes "write failed" ++ line_feed
 abbrev pub long_text : List ℕ
 long_text = codes "too long" ++ line_feed
 
--- a text that is no program of the small form
-abbrev pub refused_text : List ℕ
-refused_text = codes "refused: Unexpected at 1:1" ++ line_feed
+abbrev pub refused_name : RefusedKind → List ℕ
+refused_name refused.BadByte = codes "BadByte"
+refused_name refused.OpenComment = codes "OpenComment"
+refused_name refused.OpenText = codes "OpenText"
+refused_name refused.NumberRange = codes "NumberRange"
+refused_name refused.Unexpected = codes "Unexpected"
+refused_name refused.TooDeep = codes "TooDeep"
+
+-- as `refused: Unexpected at 1:52`
+abbrev pub refused_text : RefusedKind → Place → List ℕ
+refused_text kind at = codes "refused: " ++ refused_name kind ++ codes " at " ++ place_text at ++ line_feed

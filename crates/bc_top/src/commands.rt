@@ -1,16 +1,24 @@
 // Command lines.
 
-ghost use Rattle.std.specs.Prelude.{◌≡◌, ℕ, [], length, slice_index_or, IfSome, IfNone};
-ghost use Rattle.bc_top.specs.Commands.{Serial, IsCommand, IsNoCommand};
+ghost use Rattle.std.specs.Prelude.{◌≡◌, ◌<◌, [], length, slice_index_or, IfSome, IfNone};
+ghost use Rattle.std.specs.Bool.{OnTrue, OnFalse};
+ghost use Rattle.bc_top.specs.Commands.{IsCommand, IsNoCommand, IsNoSerial, IsNoShow};
 
 use bc_data::list::Bytes;
 use bc_data::text::read_decimal;
 
-/// The limit of commits, where the words are `serial FILE COMMITS` with COMMITS from 1 to 256.
-pub fn serial_commits(words: &[Bytes]) -> Option<u64>
+/// A command without the name of its file: `serial` with its limit of commits, or `show`.
+#[derive(Clone, Copy, Debug, PartialEq, Eq)]
+pub enum Command {
+    Serial(u64),
+    Show,
+}
+
+// The limit of commits, where the words are `serial FILE COMMITS` with COMMITS from 1 to 256.
+fn serial_commits(words: &[Bytes]) -> Option<u64>
     ensures three { IfSome result (λ _. length words.now ≡ 3) }
-    ensures command { IfSome result (λ n. IsCommand words.now (Serial (slice_index_or words.now 1 []) n)) }
-    ensures none { IfNone result (IsNoCommand words.now) }
+    ensures command { IfSome result (λ n. IsCommand words.now (Command.Serial n) (slice_index_or words.now 1 [])) }
+    ensures none { IfNone result (IsNoSerial words.now) }
 {
     let [command, _, commits] = words else {
         return None;
@@ -21,6 +29,34 @@ pub fn serial_commits(words: &[Bytes]) -> Option<u64>
     let limit = read_decimal(commits.as_slice())?;
     if limit >= 1 && limit <= 256 {
         Some(limit)
+    } else {
+        None
+    }
+}
+
+// Whether the words are `show FILE`.
+fn is_show(words: &[Bytes]) -> bool
+    ensures two { OnTrue result (length words.now ≡ 2) }
+    ensures yes { OnTrue result (IsCommand words.now Command.Show (slice_index_or words.now 1 [])) }
+    ensures no { OnFalse result (IsNoShow words.now) }
+{
+    let [command, _] = words else {
+        return false;
+    };
+    command.as_slice() == b"show".as_slice()
+}
+
+/// The command that the words are; its file is the second of them.
+pub fn command_of(words: &[Bytes]) -> Option<Command>
+    ensures file { IfSome result (λ _. 1 < length words.now) }
+    ensures command { IfSome result (λ c. IsCommand words.now c (slice_index_or words.now 1 [])) }
+    ensures none { IfNone result (IsNoCommand words.now) }
+{
+    if let Some(commits) = serial_commits(words) {
+        return Some(Command::Serial(commits));
+    }
+    if is_show(words) {
+        Some(Command::Show)
     } else {
         None
     }

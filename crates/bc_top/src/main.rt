@@ -1,20 +1,24 @@
 //! The program: commands, the top call and `main`.
 #![tactic(auto)]
 
+mod answer;
 mod commands;
-mod run;
-mod small;
+mod make;
+mod reader;
+#[cfg(test)]
+mod show_tests;
 #[cfg(test)]
 mod tests;
 mod texts;
 mod top;
 mod words;
 
+use answer::OUT_OF_MEMORY;
 use bc_base::file_shelf::FileShelf;
 use bc_base::sink::{ErrorSink, OutputSink};
 use bc_base::source::InputSource;
 use std::process::ExitCode;
-use top::{OUT_OF_MEMORY, plain};
+use top::plain;
 use words::program_words;
 
 fn main(rt: HostRuntime) -> ExitCode {

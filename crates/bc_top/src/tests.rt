@@ -1,4 +1,4 @@
-// The top call over objects in memory.
+// The top call over objects in memory: `serial`.
 
 use crate::top::{Report, plain};
 use bc_base::shelf::{MemoryShelf, NamedFile};
@@ -20,11 +20,11 @@ const TURNS: &str =
 
 // What a call over objects in memory left.
 #[derive(Drop)]
-struct Told {
-    report: Report,
+pub struct Told {
+    pub report: Report,
     out: Bytes,
     err: Bytes,
-    asked: usize,
+    pub asked: usize,
 }
 
 fn words(alloc: Global, all: &[&str]) -> Result<List<Bytes>, Fail> {
@@ -45,7 +45,7 @@ fn shelf(alloc: Global, content: &[u8], fails: List<u32>) -> Result<MemoryShelf,
 }
 
 // The call with a shelf of one file `p`, and an `out` that takes so many bytes a call and fails at those calls.
-fn call(
+pub fn call(
     alloc: Global,
     all: &[&str],
     content: &[u8],
@@ -66,7 +66,7 @@ fn call(
     })
 }
 
-fn expect(rt: &impl Abort, told: &Told, status: u8, out: &str, err: &str) {
+pub fn expect(rt: &impl Abort, told: &Told, status: u8, out: &str, err: &str) {
     assert_eq!(rt; told.report.status, status);
     assert_eq!(rt; told.out.as_slice(), out.as_bytes());
     assert_eq!(rt; told.err.as_slice(), err.as_bytes());

@@ -3,13 +3,14 @@
 ghost use Rattle.std.specs.Prelude.{◌≡◌, ℕ, [], ◌++◌, length, take, slice_get, IfOk, OnOk};
 ghost use Rattle.std.specs.List.{flat_map};
 ghost use Rattle.std.specs.Fmt.{decimal};
-ghost use Rattle.bc_top.specs.Texts.{kind_name, joined, behind_comma, tags_text, task_name, invocation_text, place_text, failure_line, end_line, end_text, spent_text};
+ghost use Rattle.bc_top.specs.Texts.{kind_name, joined, behind_comma, tags_text, task_name, invocation_text, place_text, failure_line, end_line, end_text, spent_text, refused_name, refused_text};
 
-use crate::run::Failure;
+use crate::reader::RefusedKind;
 use bc_data::list::Bytes;
 use bc_data::program::{Program, Task};
 use bc_data::run::{FaultKind, Invocation, Place};
 use bc_data::text::natural;
+use bc_serial::run::Failure;
 use std::alloc::{AllocError, Global};
 
 /// The name of a kind of fault.
@@ -180,6 +181,32 @@ pub fn spent_text(alloc: Global, committed: usize) -> Result<Bytes, AllocError>
     let mut text = Bytes::from_slice(alloc, b"spent: ")?;
     push_number(&mut text, alloc, committed as u64)?;
     text.extend_from_slice(b" committed")?;
+    text.push(b'\n')?;
+    Ok(text)
+}
+
+// The name of a kind of refusal.
+fn refused_name(kind: RefusedKind) -> &'static [u8]
+    ensures { result.now ≡ refused_name kind }
+{
+    match kind {
+        RefusedKind::BadByte => b"BadByte",
+        RefusedKind::OpenComment => b"OpenComment",
+        RefusedKind::OpenText => b"OpenText",
+        RefusedKind::NumberRange => b"NumberRange",
+        RefusedKind::Unexpected => b"Unexpected",
+        RefusedKind::TooDeep => b"TooDeep",
+    }
+}
+
+/// The text where a program's text is refused.
+pub fn refused_text(alloc: Global, kind: RefusedKind, at: Place) -> Result<Bytes, AllocError>
+    ensures { IfOk result (λ text. text ≡ refused_text kind at) }
+{
+    let mut text = Bytes::from_slice(alloc, b"refused: ")?;
+    text.extend_from_slice(refused_name(kind))?;
+    text.extend_from_slice(b" at ")?;
+    push_place(&mut text, alloc, at)?;
     text.push(b'\n')?;
     Ok(text)
 }

@@ -1,0 +1,9 @@
+pub mod Turns
+pub mod Enabling
+pub mod Performing
+pub mod Turning
+pub mod Going
+pub mod Ending
+pub mod Rooms
+pub mod Serving
+pub mod Qualifying

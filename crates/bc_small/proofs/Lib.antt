@@ -1,0 +1,4 @@
+pub mod SmallLex
+pub mod SmallLoop
+pub mod SmallTokens
+pub mod SmallLaws
