@@ -1,0 +1,12 @@
+//! The numbers of a program's names.
+#![tactic(auto)]
+
+mod fault;
+mod members;
+mod names;
+mod space;
+#[cfg(test)]
+mod tests;
+
+pub use fault::{TypeFault, TypeKind};
+pub use names::{Names, number};

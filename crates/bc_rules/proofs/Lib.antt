@@ -1,0 +1,6 @@
+pub mod Steps
+pub mod Expressions
+pub mod Statements
+pub mod Programs
+pub mod Places
+pub mod Numbered
