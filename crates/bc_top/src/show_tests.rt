@@ -84,14 +84,25 @@ fn tells_where_a_text_is_too_deep(rt: HostRuntime) -> Result<(), Fail> {
     expect_refused(&rt, alloc, cut.as_slice(), "refused: Unexpected at 2:74\n")
 }
 
+fn spaces(alloc: Global, len: usize) -> Result<Vec<u8>, Fail> {
+    Ok(vec![in alloc; b' '; len]?)
+}
+
 #[test]
 fn has_a_limit_for_files(rt: HostRuntime) -> Result<(), Fail> {
     let alloc = rt.alloc();
-    let long = vec![in alloc; b' '; 1_048_577]?;
+    let long = spaces(alloc, 1_048_577)?;
     let told = call(alloc, &["show", "p"], &long, 100, &[])?;
     expect(&rt, &told, 8, "", "too long\n");
-    let told = call(alloc, &["show", "p"], &long[..1_048_576], 100, &[])?;
+    let fits = spaces(alloc, 1_048_576)?;
+    let told = call(alloc, &["show", "p"], &fits, 100, &[])?;
     expect(&rt, &told, 0, "", "");
+    Ok(())
+}
+
+#[test]
+fn tells_other_words_and_failed_calls(rt: HostRuntime) -> Result<(), Fail> {
+    let alloc = rt.alloc();
     let told = call(alloc, &["show", "p", "3"], b"", 100, &[])?;
     expect(&rt, &told, 2, "", "words: not a command\n");
     let told = call(alloc, &["show"], b"", 100, &[])?;
