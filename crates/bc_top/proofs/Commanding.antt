@@ -7,7 +7,7 @@ use Rattle.std.specs.Cmp.Lexicographic.{pointwise, same_text}
 use Rattle.std.proofs.lemmas.Fmt.{decimal_injective}
 use Rattle.bc_top.specs.declared.commands.Command.{Command}
 use Rattle.bc_top.specs.declared.commands.Command.TheVariants as command
-use Rattle.bc_top.specs.Commands.{words_of, IsNoCommand, IsNoSerial, IsNoShow}
+use Rattle.bc_top.specs.Commands.{words_of, IsNoCommand, IsNoSerial, AreNone}
 
 pub matched : (xs ys : List ℕ) → false ≡ not (pointwise nat_eq xs ys) → xs ≡ ys
 matched xs ys h = same_text xs ys (turned (pointwise nat_eq xs ys) h)
@@ -41,14 +41,15 @@ refuses words z n c number fits out m file is =
     let same : n ≡ m = decimal_injective n m fits (omega arith) (sym number ∙ c ∙ third) in
     ⊎_elim (λ low. omega arith) (λ high. omega arith) out
 
-pub shows : (words : List (List ℕ)) (x : List ℕ) → length words ≡ 2 → x ≡ get_or words 0 x → x ≡ codes "show" → words ≡ words_of command.Show (get_or words 1 [])
-shows words x h a show =
+pub names_file : (words : List (List ℕ)) (x name : List ℕ) → length words ≡ 2 → x ≡ get_or words 0 x → x ≡ name → words ≡ name ∷ get_or words 1 [] ∷ []
+names_file words x name h a is =
     two words x [] h
-    ∙ ap (λ w. w ∷ get_or words 1 [] ∷ []) (sym a ∙ show)
+    ∙ ap (λ w. w ∷ get_or words 1 [] ∷ []) (sym a ∙ is)
 
-pub no_command : (words : List (List ℕ)) → IsNoSerial words → IsNoShow words → IsNoCommand words
-no_command words serial show (command.Serial commits) file is = serial commits file is
-no_command words serial show command.Show file is = show file is
+pub no_command : (words : List (List ℕ)) → IsNoSerial words → AreNone words (codes "show") → AreNone words (codes "check") → IsNoCommand words
+no_command words serial show check (command.Serial commits) file is = serial commits file is
+no_command words serial show check command.Show file is = show file is.0
+no_command words serial show check command.Check file is = check file is.0
 
 pub on_true : (b : Bool) {P : Type 0} → (true ≡ b → P) → OnTrue b P
 on_true true h = h refl

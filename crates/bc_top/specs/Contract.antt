@@ -9,6 +9,7 @@ use Rattle.bc_data.specs.declared.run.Stop.TheVariants as stop
 use Rattle.bc_base.specs.Outside.{Rose, Appends, AppendsPart}
 use Rattle.bc_base.specs.Files.{Told, file_of, with_asked}
 use Rattle.bc_print.specs.Canonical.{program_text}
+use Rattle.bc_rules.specs.Typed.{TypedProgram}
 use Rattle.bc_small.specs.Small.{SmallTask, IsProgramOf}
 use Rattle.bc_small.specs.SmallText.{IsSmall}
 use Rattle.bc_serial.specs.Run.{IsRunOf}
@@ -22,8 +23,8 @@ use Rattle.bc_top.specs.declared.reader.RefusedKind.{RefusedKind}
 use Rattle.bc_top.specs.declared.reader.RefusedKind.TheVariants as kind
 use Rattle.bc_top.specs.declared.top.Report.{Report}
 use Rattle.bc_top.specs.Commands.{IsCommand, IsNoCommand, file_limit}
-use Rattle.bc_top.specs.Reading.{IsText, IsRefused}
-use Rattle.bc_top.specs.Texts.{stop_text, words_text, read_text, write_text, long_text, refused_text, memory_text}
+use Rattle.bc_top.specs.Reading.{IsProgramText, IsRefused}
+use Rattle.bc_top.specs.Texts.{stop_text, words_text, read_text, write_text, long_text, refused_text, ok_text, memory_text}
 
 -- the status of a run that stopped so
 abbrev pub status_of : Stop → ℕ
@@ -58,11 +59,15 @@ pub record Serves (text : List ℕ) (commits : ℕ) (a : Answer) : Type 0 where
 abbrev pub IsNotSmall : List ℕ → Type 0
 IsNotSmall text = (small : List SmallTask) → IsSmall text small → ⊥
 
--- The text has a tree, and the answer is its canonical text.
+-- The text is a program, and the answer is the canonical text of its tree.
 abbrev pub Shows : List ℕ → Answer → Type 0
-Shows text a = (items : Sequence Item) × IsText text items × (a ≡ answer_of_text (program_text items))
+Shows text a = (items : Sequence Item) × (program : TypedProgram) × IsProgramText text items program × (a ≡ answer_of_text (program_text items))
 
--- The text has no tree, and the answer tells its one fault.
+-- The text is a program, and the answer counts what it declares.
+abbrev pub Checks : List ℕ → Answer → Type 0
+Checks text a = (items : Sequence Item) × (program : TypedProgram) × IsProgramText text items program × (a ≡ answer_of_text (ok_text (length program.classes) (length program.tag_types) (length program.tasks)))
+
+-- The text is no program, and the answer tells its one fault.
 abbrev pub Refuses : List ℕ → Answer → Type 0
 Refuses text a = (kind : RefusedKind) × (at : Place) × IsRefused text kind at × (a ≡ answer_of_fault kind at)
 
@@ -70,6 +75,7 @@ Refuses text a = (kind : RefusedKind) × (at : Place) × IsRefused text kind at 
 abbrev pub IsMadeOf : Command → List ℕ → Answer → Type 0
 IsMadeOf (command.Serial commits) text a = Serves text commits a ⊎ (IsNotSmall text × (a ≡ answer_of_fault kind.Unexpected (record { line = 1; column = 1 })))
 IsMadeOf command.Show text a = Shows text a ⊎ Refuses text a
+IsMadeOf command.Check text a = Checks text a ⊎ Refuses text a
 
 -- where the shelf tells its files, this is the content of that name
 abbrev pub IsFile : Option Told → List ℕ → List ℕ → Type 0

@@ -1,5 +1,5 @@
 -- The texts that the program writes beside a program's output.
-use Rattle.std.specs.Prelude.{ℕ, List, [], ◌∷◌, ◌++◌, length, take, codes, slice_get, Option, Some, None}
+use Rattle.std.specs.Prelude.{ℕ, ◌-◌, List, [], ◌∷◌, ◌++◌, length, take, codes, slice_get, Option, Some, None}
 use Rattle.std.specs.List.{flat_map}
 use Rattle.std.specs.Fmt.{decimal}
 use Rattle.bc_data.specs.Program.{Parts}
@@ -104,7 +104,19 @@ refused_name refused.OpenText = codes "OpenText"
 refused_name refused.NumberRange = codes "NumberRange"
 refused_name refused.Unexpected = codes "Unexpected"
 refused_name refused.TooDeep = codes "TooDeep"
+refused_name refused.Twice = codes "Twice"
+refused_name refused.TooMany = codes "TooMany"
+refused_name refused.Unknown = codes "Unknown"
+refused_name refused.Mismatch = codes "Mismatch"
+refused_name refused.Arity = codes "Arity"
+refused_name refused.Fixed = codes "Fixed"
+refused_name refused.Misplaced = codes "Misplaced"
+refused_name refused.NoReturn = codes "NoReturn"
 
 -- as `refused: Unexpected at 1:52`
 abbrev pub refused_text : RefusedKind → Place → List ℕ
 refused_text kind at = codes "refused: " ++ refused_name kind ++ codes " at " ++ place_text at ++ line_feed
+
+-- as `ok: 1 classes, 0 tag types, 3 tasks`; `StartupObject` isn't counted
+abbrev pub ok_text : ℕ → ℕ → ℕ → List ℕ
+ok_text classes tag_types tasks = codes "ok: " ++ decimal (classes - 1) ++ codes " classes, " ++ decimal tag_types ++ codes " tag types, " ++ decimal tasks ++ codes " tasks" ++ line_feed

@@ -1,17 +1,18 @@
 // Command lines.
 
-ghost use Rattle.std.specs.Prelude.{◌≡◌, ◌<◌, [], length, slice_index_or, IfSome, IfNone};
+ghost use Rattle.std.specs.Prelude.{◌≡◌, ◌<◌, [], ◌∷◌, length, slice_index_or, IfSome, IfNone};
 ghost use Rattle.std.specs.Bool.{OnTrue, OnFalse};
-ghost use Rattle.bc_top.specs.Commands.{IsCommand, IsNoCommand, IsNoSerial, IsNoShow};
+ghost use Rattle.bc_top.specs.Commands.{IsCommand, IsNoCommand, IsNoSerial, AreNone};
 
 use bc_data::list::Bytes;
 use bc_data::text::read_decimal;
 
-/// A command without the name of its file: `serial` with its limit of commits, or `show`.
+/// A command without the name of its file: `serial` with its limit of commits, `show` or `check`.
 #[derive(Clone, Copy, Debug, PartialEq, Eq)]
 pub enum Command {
     Serial(u64),
     Show,
+    Check,
 }
 
 // The limit of commits, where the words are `serial FILE COMMITS` with COMMITS from 1 to 256.
@@ -34,16 +35,16 @@ fn serial_commits(words: &[Bytes]) -> Option<u64>
     }
 }
 
-// Whether the words are `show FILE`.
-fn is_show(words: &[Bytes]) -> bool
+// Whether the words are a command of this name and a file.
+fn is_on_file(words: &[Bytes], name: &[u8]) -> bool
     ensures two { OnTrue result (length words.now ≡ 2) }
-    ensures yes { OnTrue result (IsCommand words.now Command.Show (slice_index_or words.now 1 [])) }
-    ensures no { OnFalse result (IsNoShow words.now) }
+    ensures yes { OnTrue result (words.now ≡ name.now ∷ slice_index_or words.now 1 [] ∷ []) }
+    ensures no { OnFalse result (AreNone words.now name.now) }
 {
     let [command, _] = words else {
         return false;
     };
-    command.as_slice() == b"show".as_slice()
+    command.as_slice() == name
 }
 
 /// The command that the words are; its file is the second of them.
@@ -55,8 +56,11 @@ pub fn command_of(words: &[Bytes]) -> Option<Command>
     if let Some(commits) = serial_commits(words) {
         return Some(Command::Serial(commits));
     }
-    if is_show(words) {
-        Some(Command::Show)
+    if is_on_file(words, b"show") {
+        return Some(Command::Show);
+    }
+    if is_on_file(words, b"check") {
+        Some(Command::Check)
     } else {
         None
     }

@@ -2,8 +2,12 @@
 #![tactic(auto)]
 
 mod answer;
+#[cfg(test)]
+mod check_tests;
 mod commands;
 mod make;
+#[cfg(test)]
+mod manual_tests;
 mod reader;
 #[cfg(test)]
 mod show_tests;

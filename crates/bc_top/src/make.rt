@@ -3,13 +3,13 @@
 ghost use Rattle.std.specs.Prelude.{◌≡◌, ◌⊎◌, ◌≤◌, length, IfOk};
 ghost use Rattle.bc_serial.specs.Run.{IsSmallStop};
 ghost use Rattle.bc_top.specs.Commands.{IsInRange, file_limit};
-ghost use Rattle.bc_top.specs.Texts.{stop_text};
-ghost use Rattle.bc_top.specs.Contract.{Shows, Refuses, IsMadeOf, answer_of_text, answer_of_fault, status_of};
+ghost use Rattle.bc_top.specs.Texts.{stop_text, ok_text};
+ghost use Rattle.bc_top.specs.Contract.{Shows, Checks, Refuses, IsMadeOf, answer_of_text, answer_of_fault, status_of};
 
 use crate::answer::Answer;
 use crate::commands::Command;
-use crate::reader::{RefusedKind, TextFault, read_tree};
-use crate::texts::{end_text, refused_text, spent_text};
+use crate::reader::{RefusedKind, TextFault, read_program};
+use crate::texts::{end_text, ok_text, refused_text, spent_text};
 use bc_data::list::{Bytes, List};
 use bc_data::program::Program;
 use bc_data::run::{Place, Stop};
@@ -86,14 +86,38 @@ fn serve(alloc: Global, text: &[u8], commits: u64) -> Result<Answer, AllocError>
     })
 }
 
+// The text that counts what a program declares.
+fn counts(alloc: Global, program: &Program) -> Result<Bytes, AllocError>
+    ensures { IfOk result (λ text. text ≡ ok_text (length program.now.classes) (length program.now.tag_types) (length program.now.tasks)) }
+{
+    ok_text(
+        alloc,
+        program.classes().len(),
+        program.tag_types().len(),
+        program.tasks().len(),
+    )
+}
+
 // Shows a text.
 fn show(alloc: Global, text: &[u8]) -> Result<Answer, AllocError>
     requires { length text.now ≤ 1048576 }
     ensures { IfOk result (λ a. Shows text.now a ⊎ Refuses text.now a) }
 {
-    match read_tree(alloc, text) {
-        Ok(tree) => Ok(answer_of_text(alloc, print_tree(alloc, &tree)?)),
+    match read_program(alloc, text) {
+        Ok(read) => Ok(answer_of_text(alloc, print_tree(alloc, &read.tree)?)),
         Err(TextFault::Refused(kind, at)) => answer_of_fault(alloc, kind, at),
+        Err(TextFault::Memory) => Err(AllocError),
+    }
+}
+
+// Checks a text.
+fn check(alloc: Global, text: &[u8]) -> Result<Answer, AllocError>
+    requires { length text.now ≤ 1048576 }
+    ensures { IfOk result (λ a. Checks text.now a ⊎ Refuses text.now a) }
+{
+    match read_program(alloc, text) {
+        Ok(read) => Ok(answer_of_text(alloc, counts(alloc, &read.program)?)),
+        Err(TextFault::Refused(kind, place)) => answer_of_fault(alloc, kind, place),
         Err(TextFault::Memory) => Err(AllocError),
     }
 }
@@ -107,5 +131,6 @@ pub fn make(alloc: Global, command: Command, text: &[u8]) -> Result<Answer, Allo
     match command {
         Command::Serial(commits) => serve(alloc, text, commits),
         Command::Show => show(alloc, text),
+        Command::Check => check(alloc, text),
     }
 }

@@ -23,7 +23,7 @@ const TURNS: &str =
 pub struct Told {
     pub report: Report,
     out: Bytes,
-    err: Bytes,
+    pub err: Bytes,
     pub asked: usize,
 }
 

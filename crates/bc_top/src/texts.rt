@@ -3,7 +3,7 @@
 ghost use Rattle.std.specs.Prelude.{◌≡◌, ℕ, [], ◌++◌, length, take, slice_get, IfOk, OnOk};
 ghost use Rattle.std.specs.List.{flat_map};
 ghost use Rattle.std.specs.Fmt.{decimal};
-ghost use Rattle.bc_top.specs.Texts.{kind_name, joined, behind_comma, tags_text, task_name, invocation_text, place_text, failure_line, end_line, end_text, spent_text, refused_name, refused_text};
+ghost use Rattle.bc_top.specs.Texts.{kind_name, joined, behind_comma, tags_text, task_name, invocation_text, place_text, failure_line, end_line, end_text, spent_text, refused_name, refused_text, ok_text};
 
 use crate::reader::RefusedKind;
 use bc_data::list::Bytes;
@@ -196,6 +196,14 @@ fn refused_name(kind: RefusedKind) -> &'static [u8]
         RefusedKind::NumberRange => b"NumberRange",
         RefusedKind::Unexpected => b"Unexpected",
         RefusedKind::TooDeep => b"TooDeep",
+        RefusedKind::Twice => b"Twice",
+        RefusedKind::TooMany => b"TooMany",
+        RefusedKind::Unknown => b"Unknown",
+        RefusedKind::Mismatch => b"Mismatch",
+        RefusedKind::Arity => b"Arity",
+        RefusedKind::Fixed => b"Fixed",
+        RefusedKind::Misplaced => b"Misplaced",
+        RefusedKind::NoReturn => b"NoReturn",
     }
 }
 
@@ -207,6 +215,26 @@ pub fn refused_text(alloc: Global, kind: RefusedKind, at: Place) -> Result<Bytes
     text.extend_from_slice(refused_name(kind))?;
     text.extend_from_slice(b" at ")?;
     push_place(&mut text, alloc, at)?;
+    text.push(b'\n')?;
+    Ok(text)
+}
+
+/// The text where a program is accepted, of so many classes (`StartupObject` among them), tag types and tasks.
+pub fn ok_text(
+    alloc: Global,
+    classes: usize,
+    tag_types: usize,
+    tasks: usize,
+) -> Result<Bytes, AllocError>
+    ensures { IfOk result (λ text. text ≡ ok_text classes tag_types tasks) }
+{
+    let mut text = Bytes::from_slice(alloc, b"ok: ")?;
+    push_number(&mut text, alloc, classes.saturating_sub(1) as u64)?;
+    text.extend_from_slice(b" classes, ")?;
+    push_number(&mut text, alloc, tag_types as u64)?;
+    text.extend_from_slice(b" tag types, ")?;
+    push_number(&mut text, alloc, tasks as u64)?;
+    text.extend_from_slice(b" tasks")?;
     text.push(b'\n')?;
     Ok(text)
 }

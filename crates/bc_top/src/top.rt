@@ -33,7 +33,7 @@ fn file_limit(command: Command) -> usize
 {
     match command {
         Command::Serial(_) => 65_536,
-        Command::Show => 1_048_576,
+        Command::Show | Command::Check => 1_048_576,
     }
 }
 
@@ -132,8 +132,8 @@ fn tell_refusal<K: Sink, E: Sink>(
 
 /// Does what the words say, without the program's name. `serial FILE COMMITS` runs the program in that file on one
 /// thread, up to so many commits: the program's output goes to `out`, and then a message to `err`. `show FILE`
-/// writes the canonical text of the program in that file. A text that is no program is refused with its one fault. The
-/// file is asked of the shelf. The input isn't read.
+/// writes the canonical text of the program in that file, and `check FILE` counts what it declares. A text that is no
+/// program is refused with its one fault. The file is asked of the shelf. The input isn't read.
 pub fn plain<F: Shelf, S: Source, K: Sink, E: Sink>(
     alloc: Global,
     words: &List<Bytes>,

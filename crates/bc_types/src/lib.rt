@@ -1,0 +1,12 @@
+//! Checking of programs: the program of an accepted tree, or its first fault.
+#![tactic(auto)]
+
+mod class;
+mod program;
+#[cfg(test)]
+mod tests;
+mod types;
+mod walk;
+
+pub use bc_names::{TypeFault, TypeKind};
+pub use program::check;

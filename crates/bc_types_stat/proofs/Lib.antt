@@ -1,0 +1,11 @@
+pub mod Chains
+pub mod Walks
+pub mod Rows
+pub mod Blocks
+pub mod Exits
+pub mod Printing
+pub mod Changes
+pub mod Leaving
+pub mod Variables
+pub mod Parameters
+pub mod TaskSteps

@@ -1,0 +1,12 @@
+use Rattle.std.proofs.Common.{◌∙◌, ap, sym}
+use Rattle.bc_rules.specs.Got.{Gives, Mismatch, ask, ◌>>=◌}
+use Rattle.bc_rules.specs.Typed as typed
+use Rattle.bc_rules.specs.ProgramView.{program_stat_views, view_expr}
+use Rattle.bc_types_stat.proofs.Rows.{seen_if}
+use Rattle.bc_types_stat.proofs.statements.tested_if.Goals as goal
+
+pub returns : goal.returns
+returns c =
+    let a = c.args in
+    let d = typed.If (view_expr a.test.code) (program_stat_views a.body.items typed.Nothing) (program_stat_views a.other.items typed.Nothing) in
+    ap (λ b. ask b Mismatch a.at >>= λ _. Gives d) (sym c.is_bool.ensures) ∙ ap (λ g. g >>= λ _. Gives d) c.in_ok-ask_for.ensures.answers ∙ ap Gives (sym (seen_if a.test.code a.body a.other))
