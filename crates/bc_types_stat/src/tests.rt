@@ -177,8 +177,31 @@ fn task_text(alloc: Global, letters: &str, body: Vec<StatText>) -> Result<TaskTe
     })
 }
 
+// Whether a task with such parameters has this fault.
+fn task_has(
+    alloc: Global,
+    letters: &str,
+    body: Vec<StatText>,
+    kind: TypeKind,
+    column: u32,
+) -> Result<bool, Fail> {
+    let table = table(alloc)?;
+    let text = task_text(alloc, letters, body)?;
+    Ok(is_fault(task(alloc, &table, &text), kind, 1, column))
+}
+
 #[test]
-fn tasks(rt: HostRuntime) -> Result<(), Fail> {
+fn tasks_with_faults(rt: HostRuntime) -> Result<(), Fail> {
+    let alloc = rt.alloc();
+    assert!(rt; task_has(alloc, "o p", exit(alloc, "p")?, TypeKind::Twice, 3)?);
+    assert!(rt; task_has(alloc, "o p", exit(alloc, "q")?, TypeKind::Unknown, 1)?);
+    assert!(rt; task_has(alloc, "a b c d e", Vec::new(alloc), TypeKind::TooMany, 14)?);
+    assert!(rt; task_has(alloc, "a a", Vec::new(alloc), TypeKind::Twice, 11)?);
+    Ok(())
+}
+
+#[test]
+fn a_task(rt: HostRuntime) -> Result<(), Fail> {
     let alloc = rt.alloc();
     let table = table(alloc)?;
     let text = task_text(alloc, "o p", exit(alloc, "o")?)?;
@@ -187,21 +210,25 @@ fn tasks(rt: HostRuntime) -> Result<(), Fail> {
     assert_eq!(rt; accepted.variables.len(), 1);
     assert_eq!(rt; accepted.locals, 2);
     assert_eq!(rt; accepted.tags, 1);
-    if let Some(Stat::Exit(changes)) = accepted.body.first() {
-        assert_eq!(rt; changes.len(), 2);
-        assert!(rt; changes[0] == Change::Flag(0, 0, true));
-        assert!(rt; changes[1] == Change::Clear(1, 0));
-    } else {
-        assert!(rt; false);
+    Ok(())
+}
+
+// Whether the first statement is this `taskexit`.
+fn is_exit(body: &[Stat], wanted: [Change; 2]) -> bool {
+    match body.first() {
+        Some(Stat::Exit(changes)) => changes.as_slice() == wanted.as_slice(),
+        _ => false,
     }
-    let text = task_text(alloc, "o p", exit(alloc, "p")?)?;
-    assert!(rt; is_fault(task(alloc, &table, &text), TypeKind::Twice, 1, 3));
-    let text = task_text(alloc, "o p", exit(alloc, "q")?)?;
-    assert!(rt; is_fault(task(alloc, &table, &text), TypeKind::Unknown, 1, 1));
-    let text = task_text(alloc, "a b c d e", Vec::new(alloc))?;
-    assert!(rt; is_fault(task(alloc, &table, &text), TypeKind::TooMany, 1, 14));
-    let text = task_text(alloc, "a a", Vec::new(alloc))?;
-    assert!(rt; is_fault(task(alloc, &table, &text), TypeKind::Twice, 1, 11));
+}
+
+#[test]
+fn changes_of_a_task(rt: HostRuntime) -> Result<(), Fail> {
+    let alloc = rt.alloc();
+    let table = table(alloc)?;
+    let text = task_text(alloc, "o p", exit(alloc, "o")?)?;
+    let accepted = task(alloc, &table, &text)?;
+    let wanted = [Change::Flag(0, 0, true), Change::Clear(1, 0)];
+    assert!(rt; is_exit(accepted.body.as_slice(), wanted));
     Ok(())
 }
 
