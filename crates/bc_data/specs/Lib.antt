@@ -8,3 +8,9 @@ pub mod SourceTree
 pub mod Grammar
 pub mod Refusal
 pub mod View
+pub mod Shapes
+pub mod Typed
+pub mod ProgramView
+pub mod Startup
+pub mod TypedBodies
+pub mod WellTyped

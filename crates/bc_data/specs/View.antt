@@ -1,5 +1,5 @@
 -- The trees of the code, without where they lie in memory.
-use Rattle.std.specs.Prelude.{List, [], ◌∷◌, Option, Some, None}
+use Rattle.std.specs.Prelude.{List, [], ◌∷◌, Some, None}
 use Rattle.bc_data.specs.SourceTree.{Sequence, Empty, More, Expression, Int, Truth, Null, This, Var, Group, Neg, Not, Two, Field, Length, Elem, Call, Make, Array, Expressions, NoArg, Arg, GuardOp, AndOp, OrOp, Guard, FlagIs, FlagTruth, FlagNot, FlagTwo, FlagGroup, PrintItem, TextItem, ValueItem, Change, ChangeOf, Statement, Let, NewTag, Assign, Do, MakeDo, Block, If, IfElse, While, Return, ReturnValue, Print, Assert, Exit, Statements, Nothing, Then, Method, MethodOf, FlagMember, FieldMember, MethodMember, MakerMember, Param, ParamOf, TagTypeItem, ClassItem, TaskItem}
 use Rattle.bc_data.specs.declared.run.Place.{Place}
 use Rattle.bc_data.specs.declared.tree.ExprText.{ExprText, Row_of-ExprText, end_of-ExprText, more_of-ExprText}
@@ -8,7 +8,6 @@ use Rattle.bc_data.specs.declared.tree.StatText.{StatText, Row_of-StatText, end_
 use Rattle.bc_data.specs.declared.tree.StatText.TheVariants as stat
 use Rattle.bc_data.specs.declared.tree.FlagText.{FlagText}
 use Rattle.bc_data.specs.declared.tree.FlagText.TheVariants as flag
-use Rattle.bc_data.specs.declared.tree.ActionText.{ActionText}
 use Rattle.bc_data.specs.declared.tree.ItemText.{ItemText}
 use Rattle.bc_data.specs.declared.tree.ItemText.TheVariants as item
 use Rattle.bc_data.specs.declared.tree.ChangeText.{ChangeText}

@@ -1,12 +1,16 @@
 // Accepted programs.
 
 ghost use Rattle.std.specs.Prelude.{◌≡◌};
+ghost use Rattle.bc_data.specs.ProgramView.{view_program};
+ghost use Rattle.bc_data.specs.WellTyped.{IsWellTyped};
 
 use crate::list::Bytes;
 use crate::run::{Kind, Place};
 use std::marker::Model;
 
-/// A program: its classes (the first is `StartupObject`), tag types and tasks, in the order of declaration.
+/// An accepted program: its classes (the first is `StartupObject`), tag types and tasks, in the order of declaration. Its
+/// type keeps what running and compiling it need: every number in it is in range, every expression has the shape that its
+/// place asks for, and a slot or a tag variable is read only where it has been set.
 #[derive(Drop)]
 pub struct Program {
     classes: Vec<Class>,
@@ -161,10 +165,14 @@ pub enum Tweak {
 impl Model for Program {
     ghost use Rattle.std.specs.Coded.{codes};
     ghost use Rattle.bc_data.specs.Program.{Parts};
+    ghost use Rattle.bc_data.specs.ProgramView.{view_program};
+    ghost use Rattle.bc_data.specs.WellTyped.{IsWellTyped};
     ghost use Rattle.bc_data.specs.contracts.program.Stat as stat;
     ghost use Rattle.bc_data.specs.contracts.program.FlagExpr as flag_expr;
 
     ghost Value = { Parts };
+
+    ghost invariant = { λ p. IsWellTyped (view_program (record { classes = p.classes.items; tag_types = p.tag_types.items; tasks = p.tasks.items })) };
 
     ghost coded = { Prim.hlevel (codes, stat.the_row.coded, flag_expr.the_row.coded) };
 
@@ -174,6 +182,7 @@ impl Model for Program {
 impl Program {
     /// The program with these classes, tag types and tasks.
     pub fn new(classes: Vec<Class>, tag_types: Vec<Bytes>, tasks: Vec<Task>) -> Self
+        requires { IsWellTyped (view_program (record { classes = classes.items; tag_types = tag_types.items; tasks = tasks.items })) }
         ensures { result ≡ record { classes = classes.items; tag_types = tag_types.items; tasks = tasks.items } }
     {
         Program {
@@ -181,6 +190,13 @@ impl Program {
             tag_types,
             tasks,
         }
+    }
+
+    /// What every program keeps.
+    pub fn is_well_typed(&self)
+        ensures { IsWellTyped (view_program self.now) }
+    {
+        let _ = &self.classes;
     }
 
     /// The classes. The first is `StartupObject`.

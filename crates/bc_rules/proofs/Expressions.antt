@@ -13,8 +13,8 @@ use Rattle.bc_data.specs.declared.program.Shape.TheVariants as shape
 use Rattle.bc_data.specs.declared.program.Tweak.{Tweak}
 use Rattle.bc_rules.specs.Got.{Got, Gives, ask, find, Unknown, Mismatch, Arity, Misplaced}
 use Rattle.bc_rules.specs.Numbering.{try_fold}
-use Rattle.bc_rules.specs.Typed as typed
-use Rattle.bc_rules.specs.Typed.{TypedExpression, TypedExpressions}
+use Rattle.bc_data.specs.Typed as typed
+use Rattle.bc_data.specs.Typed.{TypedExpression, TypedExpressions}
 use Rattle.bc_rules.specs.Context.{ValueType, Known, Undeclared, Signature, FieldFound, MethodFound, Names, Context, Meaning, SlotIs, ParameterIs, TagIs, Scope, meaning_of, tag_variable, tag_variable_at, fits, is_int, is_bool, element_of, class_before, field_at}
 use Rattle.bc_rules.specs.Expressions.{Typed, Argument, Arguments, Called, place_of, slot_value, takes, check_fits, check_arguments, check_call, check_tweak, array_at, infer, infer_all}
 use Rattle.bc_rules.specs.ExpressionRules.{Fit, IsSlot, IsTagVariable, Tweaks, IsArrayOf, Has, HaveAll}

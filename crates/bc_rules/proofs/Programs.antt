@@ -14,7 +14,7 @@ use Rattle.bc_data.specs.declared.run.Place.{Place}
 use Rattle.bc_data.specs.declared.program.Shape.{Shape}
 use Rattle.bc_rules.specs.Got.{Got, Gives, Fails, Kind, ◌>>=◌, ask, find, Twice, TooMany, Unknown, Mismatch, NoReturn}
 use Rattle.bc_rules.specs.Numbering.{try_fold, numbering}
-use Rattle.bc_rules.specs.Typed.{TypedGuard, TypedMethod, TypedClass, TypedTask, TypedProgram}
+use Rattle.bc_data.specs.Typed.{TypedGuard, TypedMethod, TypedClass, TypedTask, TypedProgram}
 use Rattle.bc_rules.specs.Context.{Names, Meaning, SlotIs, ParameterIs, TagIs, Scope, meaning_of, is_free, shape_at}
 use Rattle.bc_rules.specs.Declared.{names_of}
 use Rattle.bc_rules.specs.Statements.{state_all, all_leave}

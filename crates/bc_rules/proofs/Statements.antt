@@ -12,8 +12,8 @@ use Rattle.bc_data.specs.declared.program.Shape.TheVariants as shape
 use Rattle.bc_data.specs.declared.program.Change as program_change
 use Rattle.bc_rules.specs.Got.{Got, Gives, ask, find, Twice, TooMany, Unknown, Mismatch, Fixed, Misplaced}
 use Rattle.bc_rules.specs.Numbering.{try_fold}
-use Rattle.bc_rules.specs.Typed as typed
-use Rattle.bc_rules.specs.Typed.{TypedExpression, TypedPart, TypedStatement, TypedStatements}
+use Rattle.bc_data.specs.Typed as typed
+use Rattle.bc_data.specs.Typed.{TypedExpression, TypedPart, TypedStatement, TypedStatements}
 use Rattle.bc_rules.specs.Context.{ValueType, Known, Undeclared, Names, Context, Meaning, SlotIs, ParameterIs, TagIs, Scope, meaning_of, is_free, with_slot, with_tag, may_declare, declare_slot, declare_tag, tag_variable_at, ended, type_of, declared_shape, shape_at, fits, is_bool}
 use Rattle.bc_rules.specs.Expressions.{Typed, Called, place_of, infer, infer_all}
 use Rattle.bc_rules.specs.Statements.{Stated, AllStated, Parameter, parameter_of, is_parameter, assignment, infer_call, ReadItem, ReadText, ReadValue, read_item, printed, check_part, check_parts, check_action, Exiting, none_named, check_change, state, state_all}

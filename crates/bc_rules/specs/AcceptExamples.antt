@@ -9,12 +9,13 @@ use Rattle.bc_data.specs.declared.program.Op.TheVariants as op
 use Rattle.bc_data.specs.declared.program.Shape.TheVariants as shape
 use Rattle.bc_data.specs.declared.program.Change.TheVariants as change
 use Rattle.bc_data.specs.declared.program.Tweak.TheVariants as tweak
+use Rattle.bc_data.specs.Startup.{startup_class}
 use Rattle.bc_rules.specs.Got.{Gives, Fails, TooMany, NoReturn}
-use Rattle.bc_rules.specs.Typed as typed
-use Rattle.bc_rules.specs.Typed.{TypedMethod, TypedClass, TypedTask, TypedProgram, TypedStatements}
+use Rattle.bc_data.specs.Typed as typed
+use Rattle.bc_data.specs.Typed.{TypedMethod, TypedClass, TypedTask, TypedProgram, TypedStatements}
 use Rattle.bc_rules.specs.NumberingExamples.{place, named, one, two}
 use Rattle.bc_rules.specs.CheckExamples.{name, number, int_at, first, let_int, let_tag, in_task, in_tagged_task, bind, startup_param, with_params}
-use Rattle.bc_rules.specs.Walk.{startup_class, check, Accepts, HasTypeFault}
+use Rattle.bc_rules.specs.Walk.{check, Accepts, HasTypeFault}
 
 -- class A { flag f; int v; A(int v) { this.v = v; } int get() { return this.v; } }
 abbrev pub class_with_all : Item

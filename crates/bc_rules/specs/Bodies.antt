@@ -11,8 +11,8 @@ use Rattle.bc_data.specs.declared.run.Place.{Place}
 use Rattle.bc_data.specs.declared.program.Shape.{Shape}
 use Rattle.bc_rules.specs.Got.{Got, Gives, Fails, Twice, TooMany, Unknown, Mismatch, NoReturn, ask, find, ◌>>=◌, ◌>>◌}
 use Rattle.bc_rules.specs.Numbering.{try_fold}
-use Rattle.bc_rules.specs.Typed as typed
-use Rattle.bc_rules.specs.Typed.{TypedGuard, TypedMethod, TypedParam, TypedTask}
+use Rattle.bc_data.specs.Typed as typed
+use Rattle.bc_data.specs.Typed.{TypedGuard, TypedMethod, TypedParam, TypedTask}
 use Rattle.bc_rules.specs.Context.{Names, Context, Meaning, SlotIs, ParameterIs, TagIs, InScope, Scope, method_scope, task_scope, meaning_of, is_free, with_slot, with_parameter, with_tag, shape_at}
 use Rattle.bc_rules.specs.Statements.{AllStated, state_all, all_leave}
 

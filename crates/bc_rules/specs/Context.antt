@@ -8,6 +8,7 @@ use Rattle.bc_data.specs.declared.tree.Base.TheVariants as base
 use Rattle.bc_data.specs.declared.run.Place.{Place}
 use Rattle.bc_data.specs.declared.program.Shape.{Shape}
 use Rattle.bc_data.specs.declared.program.Shape.TheVariants as shape
+use Rattle.bc_data.specs.Shapes.{is_null, is_reference, same_shape}
 use Rattle.bc_rules.specs.Got.{Got, Gives, Fails, Twice, TooMany, Unknown, Mismatch, ask, find, ◌>>=◌, ◌>>◌}
 
 -- The type of a value: a shape, or a class that the program doesn't declare, or an array of such. The type of a field, or of
@@ -158,30 +159,8 @@ declared_shape (Undeclared many name) = None
 abbrev pub shape_at : Names → TypeText → Got Shape
 shape_at N t = find (declared_shape (type_of N.class_of t)) Unknown t.at
 
-abbrev pub same_shape : Shape → Shape → Bool
-same_shape shape.Int shape.Int = true
-same_shape shape.Bool shape.Bool = true
-same_shape shape.Null shape.Null = true
-same_shape (shape.Class c) (shape.Class d) = c == d
-same_shape shape.Ints shape.Ints = true
-same_shape shape.Bools shape.Bools = true
-same_shape (shape.Objects c) (shape.Objects d) = c == d
-same_shape _ _ = false
-
-abbrev pub is_reference : Shape → Bool
-is_reference shape.Int = false
-is_reference shape.Bool = false
-is_reference shape.Null = false
-is_reference (shape.Class c) = true
-is_reference shape.Ints = true
-is_reference shape.Bools = true
-is_reference (shape.Objects c) = true
-
 abbrev pub same_flag : Bool → Bool → Bool
 same_flag a b = if a then b else not b
-
-abbrev pub is_null : Shape → Bool
-is_null a = same_shape a shape.Null
 
 -- A value of the first type may stand where the second is asked for: the types are the same, or it is `null` and the second
 -- is a class or an array.

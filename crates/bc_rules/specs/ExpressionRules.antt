@@ -11,10 +11,11 @@ use Rattle.bc_data.specs.declared.run.Kind.TheVariants as array_kind
 use Rattle.bc_data.specs.declared.program.Shape.TheVariants as shape
 use Rattle.bc_data.specs.declared.program.Tweak.{Tweak}
 use Rattle.bc_data.specs.declared.program.Tweak.TheVariants as tweak
-use Rattle.bc_rules.specs.Typed as typed
-use Rattle.bc_rules.specs.Typed.{TypedExpression, TypedExpressions}
+use Rattle.bc_data.specs.Typed as typed
+use Rattle.bc_data.specs.Typed.{TypedExpression, TypedExpressions}
+use Rattle.bc_data.specs.Shapes.{result_shape, shape_of_kind}
 use Rattle.bc_rules.specs.Context.{ValueType, Known, Signature, Names, Context, Meaning, SlotIs, ParameterIs, TagIs, Scope, meaning_of, fits, element_of}
-use Rattle.bc_rules.specs.Expressions.{takes, result_shape, shape_of_kind}
+use Rattle.bc_rules.specs.Expressions.{takes}
 
 -- Each element in turn leads from one state to the next.
 abbrev pub Each : {S A : Type 0} → (S → A → S → Type 0) → S → Sequence A → S → Type 0

@@ -16,10 +16,11 @@ use Rattle.bc_data.specs.declared.program.Shape.{Shape}
 use Rattle.bc_data.specs.declared.program.Shape.TheVariants as shape
 use Rattle.bc_data.specs.declared.program.Tweak.{Tweak}
 use Rattle.bc_data.specs.declared.program.Tweak.TheVariants as tweak
+use Rattle.bc_data.specs.Shapes.{result_shape, shape_of_kind}
 use Rattle.bc_rules.specs.Got.{Got, Gives, Fails, Unknown, Mismatch, Arity, Misplaced, ask, find, ◌>>=◌, ◌>>◌}
 use Rattle.bc_rules.specs.Numbering.{try_fold}
-use Rattle.bc_rules.specs.Typed as typed
-use Rattle.bc_rules.specs.Typed.{TypedExpression, TypedExpressions}
+use Rattle.bc_data.specs.Typed as typed
+use Rattle.bc_data.specs.Typed.{TypedExpression, TypedExpressions}
 use Rattle.bc_rules.specs.Context.{ValueType, Known, Names, Context, Meaning, SlotIs, ParameterIs, TagIs, Scope, meaning_of, tag_variable_at, fits, is_int, is_bool, element_of, class_before, field_at}
 
 -- the place of an expression: its token, its operator, its `.` or `[`, its `new` or its `(`
@@ -80,21 +81,6 @@ takes op.Mul a b = is_int a && is_int b
 takes op.Div a b = is_int a && is_int b
 takes op.Rem a b = is_int a && is_int b
 
-abbrev pub result_shape : Op → Shape
-result_shape op.Or = shape.Bool
-result_shape op.And = shape.Bool
-result_shape op.Same = shape.Bool
-result_shape op.Differ = shape.Bool
-result_shape op.Less = shape.Bool
-result_shape op.LessEq = shape.Bool
-result_shape op.More = shape.Bool
-result_shape op.MoreEq = shape.Bool
-result_shape op.Add = shape.Int
-result_shape op.Sub = shape.Int
-result_shape op.Mul = shape.Int
-result_shape op.Div = shape.Int
-result_shape op.Rem = shape.Int
-
 -- the first argument that doesn't fit is a mismatch at its place
 abbrev pub check_fits : List Argument → List ValueType → Got (Unit {0})
 check_fits (x ∷ xs) (f ∷ fs) = do
@@ -133,12 +119,6 @@ array_at N base.Bool at = Gives array_kind.Bools
 array_at N (base.Class name) at = do
   c ← find (N.class_of name) Unknown at
   Gives (array_kind.Objects c)
-
-abbrev pub shape_of_kind : run_kind.Kind → Shape
-shape_of_kind (array_kind.Class c) = shape.Class c
-shape_of_kind array_kind.Ints = shape.Ints
-shape_of_kind array_kind.Bools = shape.Bools
-shape_of_kind (array_kind.Objects c) = shape.Objects c
 
 abbrev mutual
   pub infer : Context → Scope → Expression → Got Typed

@@ -2,7 +2,7 @@
 use Rattle.std.specs.Prelude.{◌≡◌, ◌⊎◌, ◌↔◌}
 use Rattle.bc_data.specs.SourceTree.{Sequence, Expression, Statement, Item}
 use Rattle.bc_rules.specs.Got.{Gives, Kind}
-use Rattle.bc_rules.specs.Typed.{TypedExpression, TypedStatement, TypedProgram}
+use Rattle.bc_data.specs.Typed.{TypedExpression, TypedStatement, TypedProgram}
 use Rattle.bc_rules.specs.Context.{ValueType, Context, Scope}
 use Rattle.bc_rules.specs.Expressions.{infer}
 use Rattle.bc_rules.specs.Statements.{state}

@@ -1,8 +1,6 @@
 pub mod Got
 pub mod Numbering
 pub mod NumberingExamples
-pub mod Typed
-pub mod ProgramView
 pub mod Context
 pub mod Expressions
 pub mod Statements

@@ -10,8 +10,8 @@ use Rattle.bc_data.specs.declared.run.Place.{Place}
 use Rattle.bc_data.specs.declared.program.Shape.{Shape}
 use Rattle.bc_rules.specs.Got.{Gives}
 use Rattle.bc_rules.specs.Numbering.{Spaces, numbering}
-use Rattle.bc_rules.specs.Typed as typed
-use Rattle.bc_rules.specs.Typed.{TypedStatements, TypedGuard, TypedMethod, TypedClass, TypedTask, TypedProgram}
+use Rattle.bc_data.specs.Typed as typed
+use Rattle.bc_data.specs.Typed.{TypedStatements, TypedGuard, TypedMethod, TypedClass, TypedTask, TypedProgram}
 use Rattle.bc_rules.specs.Context.{Known, Names, TagIs, Scope, meaning_of, type_of}
 use Rattle.bc_rules.specs.Declared.{names_of}
 use Rattle.bc_rules.specs.Statements.{all_leave}

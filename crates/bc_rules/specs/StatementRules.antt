@@ -9,8 +9,8 @@ use Rattle.bc_data.specs.declared.program.Shape.{Shape}
 use Rattle.bc_data.specs.declared.program.Shape.TheVariants as shape
 use Rattle.bc_data.specs.declared.program.Change as program_change
 use Rattle.bc_data.specs.declared.program.Change.TheVariants as change
-use Rattle.bc_rules.specs.Typed as typed
-use Rattle.bc_rules.specs.Typed.{TypedExpression, TypedExpressions, TypedPart, TypedStatement, TypedStatements}
+use Rattle.bc_data.specs.Typed as typed
+use Rattle.bc_data.specs.Typed.{TypedExpression, TypedExpressions, TypedPart, TypedStatement, TypedStatements}
 use Rattle.bc_rules.specs.Context.{ValueType, Known, Signature, Names, Context, ParameterIs, Scope, meaning_of, with_slot, with_tag, ended, type_of, fits}
 use Rattle.bc_rules.specs.Statements.{Parameter, Exiting, is_parameter, assignment, performed, none_named}
 use Rattle.bc_rules.specs.ExpressionRules.{Each, Fit, IsTagVariable, Has, HaveAll}

@@ -11,8 +11,8 @@ use Rattle.bc_data.specs.declared.program.Change as program_change
 use Rattle.bc_data.specs.declared.program.Change.TheVariants as change
 use Rattle.bc_rules.specs.Got.{Got, Gives, Twice, Unknown, Mismatch, Fixed, Misplaced, ask, find, ◌>>=◌, ◌>>◌}
 use Rattle.bc_rules.specs.Numbering.{try_fold}
-use Rattle.bc_rules.specs.Typed as typed
-use Rattle.bc_rules.specs.Typed.{TypedExpression, TypedPart, TypedStatement, TypedStatements}
+use Rattle.bc_data.specs.Typed as typed
+use Rattle.bc_data.specs.Typed.{TypedExpression, TypedPart, TypedStatement, TypedStatements}
 use Rattle.bc_rules.specs.Context.{ValueType, Known, Names, Context, Meaning, SlotIs, ParameterIs, TagIs, Scope, meaning_of, tag_variable_at, declare_slot, declare_tag, ended, shape_at, fits, is_bool}
 use Rattle.bc_rules.specs.Expressions.{Typed, Called, place_of, check_call, infer, infer_all}
 

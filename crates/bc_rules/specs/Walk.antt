@@ -3,9 +3,10 @@ use Rattle.std.specs.Prelude.{◌≡◌, ℕ, codes, length, List, [], ◌∷◌
 use Rattle.bc_data.specs.SourceTree.{Sequence, Member, FlagMember, FieldMember, MethodMember, MakerMember, Item, TagTypeItem, ClassItem, TaskItem}
 use Rattle.bc_data.specs.declared.run.Place.{Place}
 use Rattle.bc_data.specs.declared.program.Shape.TheVariants as shape
+use Rattle.bc_data.specs.Startup.{startup_class}
 use Rattle.bc_rules.specs.Got.{Got, Gives, Fails, Kind, ◌>>=◌}
 use Rattle.bc_rules.specs.Numbering.{numbering, try_fold}
-use Rattle.bc_rules.specs.Typed.{TypedClass, TypedProgram}
+use Rattle.bc_data.specs.Typed.{TypedClass, TypedProgram}
 use Rattle.bc_rules.specs.Context.{Names, shape_at}
 use Rattle.bc_rules.specs.Declared.{names_of}
 use Rattle.bc_rules.specs.Bodies.{check_method, check_maker, check_task}
@@ -35,16 +36,6 @@ check_item N p (ClassItem x members) = do
 check_item N p (TaskItem at x params body) = do
   t ← check_task N at x params body
   Gives (record p { tasks = p.tasks ++ t ∷ [] })
-
--- Each program has the class `StartupObject` from the start, with a flag and a field.
-abbrev pub startup_class : TypedClass
-startup_class = record {
-  name = codes "StartupObject";
-  flags = codes "initialstate" ∷ [];
-  fields = record { name = codes "input"; shape = shape.Ints } ∷ [];
-  maker = None;
-  methods = [];
-}
 
 abbrev pub startup_program : TypedProgram
 startup_program = record { classes = startup_class ∷ []; tag_types = []; tasks = [] }

@@ -353,7 +353,7 @@ length_tasks : (named : List (List ℕ × SmallTask)) → length (map (λ x. x.1
 length_tasks [] = refl
 length_tasks (x ∷ named) = ap suc (length_tasks named)
 
-found : (text : List ℕ) (small : List SmallTask) → program_at text ≡ Some small → IsSmall text small
+pub found : (text : List ℕ) (small : List SmallTask) → program_at text ≡ Some small → IsSmall text small
 unfolding program_at
 found text small e =
     let a = bind_some (tasks_at 256 text) (λ named. cond (are_different (names_of (map (λ x. x.1) named))) (Some (map (λ x. x.1) named)) None) small e in

@@ -312,6 +312,7 @@ fn startup_class(alloc: Global) -> Result<Class, AllocError>
 }
 
 fn program(alloc: Global, tasks: Vec<Task>) -> Result<Program, AllocError>
+    requires { (small : Sequence SmallTask) × AreSmallTasks tasks.items small × (length small ≤ 256) }
     ensures { IfOk result (λ p. (small : Sequence SmallTask) → AreSmallTasks tasks.items small → IsProgramOf p small) }
 {
     let mut classes = Vec::new(alloc);

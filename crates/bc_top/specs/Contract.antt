@@ -9,7 +9,7 @@ use Rattle.bc_data.specs.declared.run.Stop.TheVariants as stop
 use Rattle.bc_base.specs.Outside.{Rose, Appends, AppendsPart}
 use Rattle.bc_base.specs.Files.{Told, file_of, with_asked}
 use Rattle.bc_print.specs.Canonical.{program_text}
-use Rattle.bc_rules.specs.Typed.{TypedProgram}
+use Rattle.bc_data.specs.Typed.{TypedProgram}
 use Rattle.bc_small.specs.Small.{SmallTask, IsProgramOf}
 use Rattle.bc_small.specs.SmallText.{IsSmall}
 use Rattle.bc_serial.specs.Run.{IsRunOf}

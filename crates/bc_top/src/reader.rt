@@ -2,7 +2,7 @@
 
 ghost use Rattle.std.specs.Prelude.{◌≡◌, ◌≤◌, length, IfOk, IfErr};
 ghost use Rattle.bc_data.specs.View.{view_tree};
-ghost use Rattle.bc_rules.specs.ProgramView.{view_program};
+ghost use Rattle.bc_data.specs.ProgramView.{view_program};
 ghost use Rattle.bc_top.specs.Reading.{IsText, IsProgramText, IsFault, IsLexicalFault, IsGrammarFault, refused_as, fault_of_types};
 
 use bc_data::program::Program;
@@ -114,6 +114,7 @@ pub struct ProgramText {
 ///
 /// The first fault of the text's tokens, else the first token that is refused, else the first fault of names and types;
 /// or `Memory`.
+#[tactic(auto, using(crate::proofs::Reading::text_is_grammatical))]
 pub fn read_program(alloc: Global, text: &[u8]) -> Result<ProgramText, TextFault>
     requires { length text.now ≤ 1048576 }
     ensures program { IfOk result (λ r. IsProgramText text.now (view_tree r.tree) (view_program r.program)) }

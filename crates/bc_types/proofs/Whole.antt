@@ -5,7 +5,7 @@ use Rattle.bc_data.specs.SourceTree.{Sequence, ClassItem}
 use Rattle.bc_data.specs.declared.tree.Named.{Named}
 use Rattle.bc_rules.specs.Got.{Gives, ◌>>=◌}
 use Rattle.bc_rules.specs.Numbering.{Spaces, number_of, numbering, try_fold}
-use Rattle.bc_rules.specs.Typed.{TypedClass, TypedProgram}
+use Rattle.bc_data.specs.Typed.{TypedClass, TypedProgram}
 use Rattle.bc_rules.specs.Context.{Names}
 use Rattle.bc_rules.specs.Declared.{names_by, names_of, types_of}
 use Rattle.bc_rules.specs.Walk.{check, check_item, check_member, empty_class, walk}

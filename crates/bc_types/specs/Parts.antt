@@ -1,6 +1,6 @@
 -- The parts of a program as contracts see them.
-use Rattle.bc_rules.specs.Typed.{TypedProgram}
-use Rattle.bc_rules.specs.ProgramView.{view_program}
+use Rattle.bc_data.specs.Typed.{TypedProgram}
+use Rattle.bc_data.specs.ProgramView.{view_program}
 use Rattle.bc_types.specs.declared.walk.Parts.{Parts}
 
 abbrev pub parts_seen : Parts → TypedProgram

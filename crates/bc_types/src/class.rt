@@ -3,9 +3,10 @@
 ghost use Rattle.std.specs.Prelude.{◌≡◌, IfOk};
 ghost use Rattle.bc_data.specs.SourceTree.{Empty};
 ghost use Rattle.bc_data.specs.View.{onto_by, view_member};
+ghost use Rattle.bc_data.specs.Startup.{startup_class};
 ghost use Rattle.bc_rules.specs.Numbering.{try_fold};
-ghost use Rattle.bc_rules.specs.ProgramView.{view_class};
-ghost use Rattle.bc_rules.specs.Walk.{check_member, empty_class, startup_class};
+ghost use Rattle.bc_data.specs.ProgramView.{view_class};
+ghost use Rattle.bc_rules.specs.Walk.{check_member, empty_class};
 ghost use Rattle.bc_names.specs.Answers.{Answers};
 ghost use Rattle.bc_types_expr.specs.Looks.{looks};
 

@@ -3,8 +3,6 @@
 
 mod class;
 mod program;
-#[cfg(test)]
-mod tests;
 mod types;
 mod walk;
 

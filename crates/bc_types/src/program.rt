@@ -1,8 +1,9 @@
 // Whole programs.
 
 ghost use Rattle.bc_data.specs.View.{view_tree};
-ghost use Rattle.bc_rules.specs.ProgramView.{view_program};
+ghost use Rattle.bc_data.specs.ProgramView.{view_program};
 ghost use Rattle.bc_rules.specs.Walk.{check};
+ghost use Rattle.bc_accepted.specs.Laws.{IsGrammatical};
 ghost use Rattle.bc_names.specs.Answers.{Answers};
 
 use crate::types::types_of;
@@ -13,13 +14,15 @@ use bc_names::{TypeFault, number};
 use bc_types_expr::Table;
 use std::alloc::Global;
 
-/// The program of a tree, or the tree's first fault. The names come first, and then what stands under them, both in
-/// the order of the text.
+/// The program of a tree that the grammar gives to some text, or the tree's first fault. The names come first, and then
+/// what stands under them, both in the order of the text.
 pub fn check(alloc: Global, tree: &Tree) -> Result<Program, TypeFault>
+    requires { IsGrammatical (view_tree tree.now) }
     ensures { Answers result view_program (check (view_tree tree.now)) }
 {
     let names = number(alloc, tree)?;
     let types = types_of(alloc, &names, &tree.items)?;
     let table = Table { names, types };
-    walk(alloc, &table, &tree.items)
+    let parts = walk(alloc, &table, &tree.items)?;
+    Ok(parts.into_program())
 }

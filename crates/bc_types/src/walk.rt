@@ -5,7 +5,8 @@ ghost use Rattle.bc_data.specs.SourceTree.{ClassItem, Empty};
 ghost use Rattle.bc_data.specs.View.{onto_by, view_member, view_text_item};
 ghost use Rattle.bc_rules.specs.Got.{Gives};
 ghost use Rattle.bc_rules.specs.Numbering.{numbering};
-ghost use Rattle.bc_rules.specs.ProgramView.{view_program};
+ghost use Rattle.bc_data.specs.ProgramView.{view_program};
+ghost use Rattle.bc_data.specs.WellTyped.{IsWellTyped};
 ghost use Rattle.bc_rules.specs.Walk.{check_item, startup_program, walk};
 ghost use Rattle.bc_names.specs.Answers.{Answers};
 ghost use Rattle.bc_types_expr.specs.Looks.{looks};
@@ -72,7 +73,9 @@ impl Parts {
         Ok(())
     }
 
-    fn into_program(self) -> Program
+    /// The program with these parts.
+    pub fn into_program(self) -> Program
+        requires { IsWellTyped (parts_seen self) }
         ensures { view_program result ≡ parts_seen self }
     {
         let Parts {
@@ -84,14 +87,14 @@ impl Parts {
     }
 }
 
-/// The program of these items, whose names are those of the table, or the first fault behind the names.
-pub fn walk(alloc: Global, table: &Table, items: &[Item]) -> Result<Program, TypeFault>
+/// The parts of the program of these items, whose names are those of the table, or the first fault behind the names.
+pub fn walk(alloc: Global, table: &Table, items: &[Item]) -> Result<Parts, TypeFault>
     requires numbered { numbering (onto_by view_text_item items.now Empty) ≡ Gives table.now.names }
-    ensures { Answers result view_program (walk (looks table.now) (onto_by view_text_item items.now Empty)) }
+    ensures { Answers result parts_seen (walk (looks table.now) (onto_by view_text_item items.now Empty)) }
 {
     let mut parts = Parts::of_startup(alloc)?;
     for item in items {
         parts.add(alloc, table, item)?;
     }
-    Ok(parts.into_program())
+    Ok(parts)
 }

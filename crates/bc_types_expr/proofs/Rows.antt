@@ -15,9 +15,9 @@ use Rattle.bc_data.specs.declared.tree.ExprText.TheVariants as expr
 use Rattle.bc_data.specs.declared.program.Tweak.{Tweak}
 use Rattle.bc_data.specs.declared.program.Expr.{Expr, Row_of-Expr, end_of-Expr, more_of-Expr, items-the_row-Expr, items_hidden-the_row-Expr-0}
 use Rattle.bc_data.specs.declared.program.Expr as code
-use Rattle.bc_rules.specs.Typed as typed
-use Rattle.bc_rules.specs.Typed.{TypedExpressions, NoArg, Arg}
-use Rattle.bc_rules.specs.ProgramView.{view_expr, view_exprs_onto, expr_views}
+use Rattle.bc_data.specs.Typed as typed
+use Rattle.bc_data.specs.Typed.{TypedExpressions, NoArg, Arg}
+use Rattle.bc_data.specs.ProgramView.{view_expr, view_exprs_onto, expr_views}
 
 abbrev row_of : ExprText → (n : Count) × Row_of-ExprText n
 row_of (expr.Call' _ _ _ _ _ row) = (_, row)

@@ -11,8 +11,6 @@ mod members;
 mod operators;
 mod scope;
 mod table;
-#[cfg(test)]
-mod tests;
 mod typed;
 mod value_type;
 

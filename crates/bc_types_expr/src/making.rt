@@ -3,10 +3,11 @@
 ghost use Rattle.std.specs.Prelude.{◌≡◌, []};
 ghost use Rattle.bc_data.specs.SourceTree.{Empty};
 ghost use Rattle.bc_data.specs.View.{onto};
+ghost use Rattle.bc_data.specs.Shapes.{shape_of_kind};
 ghost use Rattle.bc_rules.specs.Numbering.{try_fold};
-ghost use Rattle.bc_rules.specs.Typed.{Make, NoArg};
-ghost use Rattle.bc_rules.specs.Expressions.{array_at, check_tweak, shape_of_kind};
-ghost use Rattle.bc_rules.specs.ProgramView.{expr_views, view_expr};
+ghost use Rattle.bc_data.specs.Typed.{Make, NoArg};
+ghost use Rattle.bc_rules.specs.Expressions.{array_at, check_tweak};
+ghost use Rattle.bc_data.specs.ProgramView.{expr_views, view_expr};
 ghost use Rattle.bc_names.specs.Answers.{Answers};
 ghost use Rattle.bc_types_expr.specs.Looks.{looks};
 ghost use Rattle.bc_types_expr.specs.Expressions.{arguments_seen, typed_seen};

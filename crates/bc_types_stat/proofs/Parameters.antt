@@ -6,7 +6,7 @@ use Rattle.bc_data.specs.declared.tree.Named.{Named}
 use Rattle.bc_data.specs.declared.tree.Bind.{Bind}
 use Rattle.bc_rules.specs.Got.{Got, Gives, Twice, TooMany, Unknown, ask, find, ◌>>=◌}
 use Rattle.bc_rules.specs.Numbering.{try_fold}
-use Rattle.bc_rules.specs.Typed.{TypedGuard}
+use Rattle.bc_data.specs.Typed.{TypedGuard}
 use Rattle.bc_rules.specs.Context.{Names, is_free, with_parameter}
 use Rattle.bc_rules.specs.Bodies.{Params, Binds, check_bind, check_guard, check_param}
 use Rattle.bc_types_expr.specs.Scopes.{may_be_parameter}

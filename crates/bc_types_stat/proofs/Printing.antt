@@ -4,8 +4,8 @@ use Rattle.bc_data.specs.SourceTree.{Sequence, Empty, More, PrintItem, TextItem,
 use Rattle.bc_data.specs.declared.run.Place.{Place}
 use Rattle.bc_rules.specs.Got.{Got, Gives, Fails, ◌>>=◌}
 use Rattle.bc_rules.specs.Numbering.{try_fold}
-use Rattle.bc_rules.specs.Typed as typed
-use Rattle.bc_rules.specs.Typed.{TypedPart}
+use Rattle.bc_data.specs.Typed as typed
+use Rattle.bc_data.specs.Typed.{TypedPart}
 use Rattle.bc_rules.specs.Context.{Context, Scope}
 use Rattle.bc_rules.specs.Expressions.{Typed, infer, place_of}
 use Rattle.bc_rules.specs.Statements.{Stated, ReadItem, ReadText, ReadValue, read_item, check_part, check_parts, state}

@@ -10,8 +10,8 @@ use Rattle.bc_data.specs.declared.tree.StatText.TheVariants as stat
 use Rattle.bc_data.specs.declared.program.Expr.{Expr}
 use Rattle.bc_data.specs.declared.program.Stat.{Stat, Row_of-Stat, end_of-Stat, more_of-Stat, items-the_row-Stat, items_hidden-the_row-Stat-0}
 use Rattle.bc_data.specs.declared.program.Stat as code
-use Rattle.bc_rules.specs.Typed as typed
-use Rattle.bc_rules.specs.ProgramView.{view_expr, view_program_stat, view_program_stats_onto, program_stat_views}
+use Rattle.bc_data.specs.Typed as typed
+use Rattle.bc_data.specs.ProgramView.{view_expr, view_program_stat, view_program_stats_onto, program_stat_views}
 
 -- the text's statements
 abbrev body_of : StatText → (n : Count) × Row_of-StatText n

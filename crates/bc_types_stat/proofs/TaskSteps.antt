@@ -5,7 +5,7 @@ use Rattle.bc_data.specs.SourceTree.{Sequence, Param, Statements}
 use Rattle.bc_data.specs.declared.run.Place.{Place}
 use Rattle.bc_data.specs.declared.tree.Named.{Named}
 use Rattle.bc_rules.specs.Got.{Got, Gives, ◌>>=◌}
-use Rattle.bc_rules.specs.Typed.{TypedStatements, TypedTask}
+use Rattle.bc_data.specs.Typed.{TypedStatements, TypedTask}
 use Rattle.bc_rules.specs.Context.{Context, Names, Scope, ended}
 use Rattle.bc_rules.specs.Statements.{AllStated, state_all}
 use Rattle.bc_rules.specs.Bodies.{Params, check_task, type_of_tag}

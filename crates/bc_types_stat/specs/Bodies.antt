@@ -6,8 +6,8 @@ use Rattle.bc_rules.specs.Numbering.{try_fold}
 use Rattle.bc_data.specs.declared.run.Place.{Place}
 use Rattle.bc_data.specs.declared.program.Part.{Part}
 use Rattle.bc_rules.specs.Got.{Got, Gives, Fails, Mismatch, ask, ◌>>=◌, ◌>>◌}
-use Rattle.bc_rules.specs.Typed.{TypedPart, TypedStatement, TypedStatements}
-use Rattle.bc_rules.specs.ProgramView.{view_part, view_program_param}
+use Rattle.bc_data.specs.Typed.{TypedPart, TypedStatement, TypedStatements}
+use Rattle.bc_data.specs.ProgramView.{view_part, view_program_param}
 use Rattle.bc_rules.specs.Context as rules
 use Rattle.bc_rules.specs.Context.{Context, ValueType, ended, is_bool}
 use Rattle.bc_rules.specs.Statements as rules_statements

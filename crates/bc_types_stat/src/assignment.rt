@@ -3,7 +3,7 @@
 ghost use Rattle.std.specs.Prelude.{◌≡◌, option_map};
 ghost use Rattle.bc_data.specs.SourceTree.{Assign};
 ghost use Rattle.bc_data.specs.View.{view};
-ghost use Rattle.bc_rules.specs.ProgramView.{view_expr, view_program_stat};
+ghost use Rattle.bc_data.specs.ProgramView.{view_expr, view_program_stat};
 ghost use Rattle.bc_rules.specs.Statements as rules;
 ghost use Rattle.bc_rules.specs.Statements.{state};
 ghost use Rattle.bc_rules.specs.Got.{find, Mismatch};

@@ -8,7 +8,7 @@ ghost use Rattle.bc_rules.specs.Got.{ask, find, Twice, Unknown};
 ghost use Rattle.bc_rules.specs.Context.{meaning_of};
 ghost use Rattle.bc_rules.specs.Numbering.{try_fold};
 ghost use Rattle.bc_rules.specs.Statements.{check_action, check_change, none_named, parameter_of, state};
-ghost use Rattle.bc_rules.specs.ProgramView.{view_program_stat};
+ghost use Rattle.bc_data.specs.ProgramView.{view_program_stat};
 ghost use Rattle.bc_names.specs.Answers.{Answers};
 ghost use Rattle.bc_types_expr.specs.Contexts.{context_of};
 ghost use Rattle.bc_types_expr.specs.Looks.{looks};

@@ -12,8 +12,6 @@ mod print;
 mod statements;
 mod task_scope;
 mod tasks;
-#[cfg(test)]
-mod tests;
 
 pub use guards::guard;
 pub use leaves::all_leave;

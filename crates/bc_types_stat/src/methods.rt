@@ -6,7 +6,7 @@ ghost use Rattle.bc_data.specs.SourceTree.{Empty, Nothing};
 ghost use Rattle.bc_data.specs.View.{onto, stat_views, view_method};
 ghost use Rattle.bc_rules.specs.Bodies.{check_formal, check_maker, check_method, result_at};
 ghost use Rattle.bc_rules.specs.Got.{ask, NoReturn};
-ghost use Rattle.bc_rules.specs.ProgramView.{view_program_method};
+ghost use Rattle.bc_data.specs.ProgramView.{view_program_method};
 ghost use Rattle.bc_rules.specs.Statements as rules;
 ghost use Rattle.bc_names.specs.Answers.{Answers};
 ghost use Rattle.bc_types_expr.specs.Looks.{looks};

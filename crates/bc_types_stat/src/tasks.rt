@@ -4,7 +4,7 @@ ghost use Rattle.std.specs.Prelude.{◌≡◌};
 ghost use Rattle.bc_data.specs.SourceTree.{Empty, Nothing};
 ghost use Rattle.bc_data.specs.View.{onto_by, stat_views, view_param};
 ghost use Rattle.bc_rules.specs.Bodies.{check_task};
-ghost use Rattle.bc_rules.specs.ProgramView.{view_task};
+ghost use Rattle.bc_data.specs.ProgramView.{view_task};
 ghost use Rattle.bc_names.specs.Answers.{Answers};
 ghost use Rattle.bc_types_expr.specs.Looks.{looks};
 

@@ -3,7 +3,7 @@ use Rattle.bc_data.specs.SourceTree.{Empty}
 use Rattle.bc_data.specs.View.{onto_by, view_member}
 use Rattle.bc_rules.specs.Got.{Gives}
 use Rattle.bc_rules.specs.Numbering.{try_fold}
-use Rattle.bc_rules.specs.ProgramView.{view_class}
+use Rattle.bc_data.specs.ProgramView.{view_class}
 use Rattle.bc_rules.specs.Walk.{check_member, empty_class}
 use Rattle.bc_types_expr.specs.Looks.{looks}
 use Rattle.bc_types.proofs.class.class_of.Given as goal

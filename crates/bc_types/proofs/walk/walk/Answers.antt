@@ -2,7 +2,7 @@ use Rattle.std.proofs.Common.{◌<◌, ◌≤◌, length, arith}
 use Rattle.std.proofs.lemmas.List.{length-map}
 use Rattle.std.proofs.lemmas.Result.{err_from_is_err_and}
 use Rattle.bc_data.specs.View.{view_text_item}
-use Rattle.bc_rules.specs.ProgramView.{view_class}
+use Rattle.bc_data.specs.ProgramView.{view_class}
 use Rattle.bc_rules.specs.Walk.{check_item, startup_program}
 use Rattle.bc_types_expr.specs.Looks.{looks}
 use Rattle.bc_names.proofs.Walk.{walk_on, walk_stops}

@@ -1,6 +1,6 @@
 use Rattle.std.proofs.Common.{◌∙◌, ap}
-use Rattle.bc_rules.specs.Typed.{Call, NoArg}
-use Rattle.bc_rules.specs.ProgramView.{expr_views, view_expr}
+use Rattle.bc_data.specs.Typed.{Call, NoArg}
+use Rattle.bc_data.specs.ProgramView.{expr_views, view_expr}
 use Rattle.bc_types_expr.proofs.Rows.{code_call}
 use Rattle.bc_types_expr.proofs.calls.call_code.Goals as goal
 

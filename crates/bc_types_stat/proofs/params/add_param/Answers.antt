@@ -8,7 +8,7 @@ use Rattle.bc_rules.specs.Numbering.{try_fold}
 use Rattle.bc_rules.specs.Bodies as rules
 use Rattle.bc_rules.specs.Bodies.{check_bind}
 use Rattle.bc_rules.specs.Context.{with_parameter}
-use Rattle.bc_rules.specs.ProgramView.{view_flag_expr, view_program_param}
+use Rattle.bc_data.specs.ProgramView.{view_flag_expr, view_program_param}
 use Rattle.bc_names.specs.Answers.{Stops}
 use Rattle.bc_types_expr.specs.Looks.{looks}
 use Rattle.bc_types_stat.specs.Bodies.{binds_seen, params_seen, unbound}

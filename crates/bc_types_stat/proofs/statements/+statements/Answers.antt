@@ -5,8 +5,8 @@ use Rattle.bc_data.specs.SourceTree as source
 use Rattle.bc_data.specs.View.{onto_by, stat_views, view_change, view_item, view_stat}
 use Rattle.bc_rules.specs.Got.{Gives}
 use Rattle.bc_rules.specs.Statements.{state}
-use Rattle.bc_rules.specs.Typed as typed
-use Rattle.bc_rules.specs.ProgramView.{program_stat_views, view_program_stat}
+use Rattle.bc_data.specs.Typed as typed
+use Rattle.bc_data.specs.ProgramView.{program_stat_views, view_program_stat}
 use Rattle.bc_names.specs.Answers.{Answers, Stops}
 use Rattle.bc_types_expr.specs.Contexts.{context_of}
 use Rattle.bc_types_expr.specs.Expressions.{typed_seen}

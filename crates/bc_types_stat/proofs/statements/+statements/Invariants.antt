@@ -1,7 +1,7 @@
 use Rattle.std.proofs.Common.{◌≡◌, take}
 use Rattle.bc_rules.specs.Got.{Gives}
-use Rattle.bc_rules.specs.Typed.{Nothing}
-use Rattle.bc_rules.specs.ProgramView.{program_stat_views}
+use Rattle.bc_data.specs.Typed.{Nothing}
+use Rattle.bc_data.specs.ProgramView.{program_stat_views}
 use Rattle.bc_types_expr.specs.Contexts.{context_of}
 use Rattle.bc_types_stat.specs.Bodies.{all_stated}
 use Rattle.bc_types_stat.proofs.Blocks.{all_of}

@@ -3,8 +3,8 @@ use Rattle.std.proofs.lemmas.Result.{err_from_is_err_and}
 use Rattle.bc_data.specs.SourceTree.{Empty, Nothing}
 use Rattle.bc_data.specs.View.{onto_by, stat_views, view_param}
 use Rattle.bc_rules.specs.Got.{Gives}
-use Rattle.bc_rules.specs.Typed as typed
-use Rattle.bc_rules.specs.ProgramView.{program_stat_views}
+use Rattle.bc_data.specs.Typed as typed
+use Rattle.bc_data.specs.ProgramView.{program_stat_views}
 use Rattle.bc_names.specs.Answers.{Stops}
 use Rattle.bc_types_expr.specs.Looks.{looks}
 use Rattle.bc_types_stat.specs.Bodies.{all_stated, block_of, check_params, params_seen}

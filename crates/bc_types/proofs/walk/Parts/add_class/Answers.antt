@@ -3,8 +3,8 @@ use Rattle.std.proofs.lemmas.List.{length-map, map-append}
 use Rattle.std.proofs.lemmas.Result.{err_from_is_err_and}
 use Rattle.bc_data.specs.SourceTree.{Empty}
 use Rattle.bc_data.specs.View.{onto_by, view_member}
-use Rattle.bc_rules.specs.ProgramView.{view_class}
-use Rattle.bc_rules.specs.Typed.{TypedClass, TypedProgram}
+use Rattle.bc_data.specs.ProgramView.{view_class}
+use Rattle.bc_data.specs.Typed.{TypedClass, TypedProgram}
 use Rattle.bc_types_expr.specs.Looks.{looks}
 use Rattle.bc_types.specs.Parts.{parts_seen}
 use Rattle.bc_types.proofs.Whole.{class_stops, class_joins}

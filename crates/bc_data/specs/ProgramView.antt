@@ -13,8 +13,8 @@ use Rattle.bc_data.specs.declared.program.Class.{Class}
 use Rattle.bc_data.specs.declared.program.Param.{Param}
 use Rattle.bc_data.specs.declared.program.Task.{Task}
 use Rattle.bc_data.specs.Program.{Parts}
-use Rattle.bc_rules.specs.Typed as typed
-use Rattle.bc_rules.specs.Typed.{TypedExpression, TypedExpressions, NoArg, Arg, TypedPart, TypedStatement, TypedStatements, Nothing, Then, TypedGuard, TypedMethod, TypedClass, TypedParam, TypedTask, TypedProgram}
+use Rattle.bc_data.specs.Typed as typed
+use Rattle.bc_data.specs.Typed.{TypedExpression, TypedExpressions, NoArg, Arg, TypedPart, TypedStatement, TypedStatements, Nothing, Then, TypedGuard, TypedMethod, TypedClass, TypedParam, TypedTask, TypedProgram}
 
 abbrev mutual
   pub view_expr : Expr → TypedExpression

@@ -2,18 +2,16 @@
 
 ghost use Rattle.std.specs.Prelude.{◌≤◌, length};
 
-use crate::check;
-use bc_data::tree::Tree;
-use bc_lex::tokens;
-use bc_names::TypeFault;
-use bc_parse::parse;
+use crate::texts::checked;
+use bc_data::program::Program;
+use bc_types::TypeFault;
 use std::alloc::Global;
 use std::process::Abort;
 use std::test::Fail;
 
 /// How much a program has, with `StartupObject` among its classes, or its first fault.
-fn glance(alloc: Global, tree: &Tree) -> Result<String, Fail> {
-    match check(alloc, tree) {
+fn glance(alloc: Global, answer: Result<Program, TypeFault>) -> Result<String, Fail> {
+    match answer {
         Ok(program) => {
             let classes = program.classes().len();
             let tag_types = program.tag_types().len();
@@ -29,18 +27,11 @@ fn glance(alloc: Global, tree: &Tree) -> Result<String, Fail> {
     }
 }
 
-/// A glance at the program of a text, or the text's fault.
-#[tactic(auto, using(bc_parse::proofs::Lexed::ended))]
+/// A glance at the program of a text.
 fn answer(alloc: Global, text: &str) -> Result<String, Fail>
     requires { length text.now ≤ 1048576 }
 {
-    match tokens(alloc, text.as_bytes()) {
-        Ok(found) => match parse(alloc, text.as_bytes(), &found) {
-            Ok(tree) => glance(alloc, &tree),
-            Err(fault) => Ok(format!(in alloc; "{fault:?}")?),
-        },
-        Err(fault) => Ok(format!(in alloc; "{fault:?}")?),
-    }
+    glance(alloc, checked(alloc, text)?)
 }
 
 fn are_answered(rt: &impl Abort, alloc: Global, cases: &[(&str, &str)]) -> Result<(), Fail> {
@@ -120,18 +111,4 @@ task t(StartupObject s in initialstate with k c) { print((new A(3)).next()); tas
             ("task t(A a in f) { } class B { C c; }", "Unknown at 1:8"),
         ],
     )
-}
-
-#[test]
-fn limits(rt: HostRuntime) -> Result<(), Fail> {
-    let alloc = rt.alloc();
-    let mut text = String::from_str(alloc, "class A {\n")?;
-    for i in 0..33 {
-        text.push_str(format!(in alloc; "flag f{i};\n")?.as_str())?;
-    }
-    text.push_str("}")?;
-    let text = text.as_str();
-    assert!(rt; text.len() < 1000);
-    assert_eq!(rt; answer(alloc, text)?.as_str(), "TooMany at 34:6");
-    Ok(())
 }

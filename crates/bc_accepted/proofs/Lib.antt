@@ -1,0 +1,16 @@
+pub mod Agreement
+pub mod Scopes
+pub mod ScopeLemmas
+pub mod Growth
+pub mod TypedExpressions
+pub mod TypedStatements
+pub mod Bodies
+pub mod TypedMethods
+pub mod TypedTasks
+pub mod Paired
+pub mod Counted
+pub mod Typing
+pub mod Agreeing
+pub mod Spelled
+pub mod Whole
+pub mod Accepted
