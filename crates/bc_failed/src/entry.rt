@@ -7,7 +7,7 @@ ghost use Rattle.bc_failed.specs.Ordered.{failure_of};
 
 use bc_data::list::List;
 use bc_data::run::{Fault, Invocation};
-use bc_pending::steps::Steps;
+use bc_steps::Steps;
 use std::marker::Model;
 use std::sync::ledger::Ledger;
 

@@ -10,7 +10,7 @@ use crate::entry::{Failure, Record};
 use crate::order::{all_ordered, drop_in, invocations, touching_ordered};
 use bc_data::list::List;
 use bc_data::run::{Fault, Invocation};
-use bc_pending::steps::Steps;
+use bc_steps::Steps;
 use std::alloc::{AllocError, Global};
 use std::marker::Model;
 use std::sync::ledger::Ledger;

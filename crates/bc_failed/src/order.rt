@@ -8,7 +8,7 @@ ghost use Rattle.bc_failed.specs.Ordered.{put, ordered};
 
 use crate::entry::{Failure, Record};
 use bc_data::run::Invocation;
-use bc_pending::steps::Steps;
+use bc_steps::Steps;
 use std::alloc::{AllocError, Global};
 use std::cmp::Ordering;
 use std::sync::ledger::Ledger;

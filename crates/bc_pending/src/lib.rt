@@ -4,6 +4,5 @@
 pub mod keep;
 pub mod pending;
 mod search;
-pub mod steps;
 #[cfg(test)]
 mod tests;

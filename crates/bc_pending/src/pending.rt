@@ -8,10 +8,10 @@ ghost use Rattle.bc_pending.specs.Lists.{Moves, HasObjects, held_by, is_held, is
 
 use crate::keep::Keep;
 use crate::search::{extend_in, held_count, keep_in, place_of_allowed, place_of_same, push_in};
-use crate::steps::Steps;
 use bc_data::list::List;
 use bc_data::run::Invocation;
 use bc_data::task_set::TaskSet;
+use bc_steps::Steps;
 use std::alloc::{AllocError, Global};
 use std::marker::Model;
 use std::sync::ledger::Ledger;

@@ -5,9 +5,9 @@ ghost use Rattle.bc_mean.specs.Serial.{same_invocation};
 ghost use Rattle.bc_pending.specs.Lists.{is_allowed, names, stays};
 
 use crate::keep::Keep;
-use crate::steps::Steps;
 use bc_data::run::Invocation;
 use bc_data::task_set::TaskSet;
+use bc_steps::Steps;
 use std::sync::ledger::Ledger;
 
 /// The tasks of a set are below this.

@@ -4,11 +4,11 @@ ghost use Rattle.std.specs.Prelude.{◌≡◌, ◌<◌, [], ◌∷◌, IfOk, Non
 
 use crate::keep::Keep;
 use crate::pending::Pending;
-use crate::steps::Steps;
 use bc_data::ids::Ids;
 use bc_data::list::List;
 use bc_data::run::Invocation;
 use bc_data::task_set::TaskSet;
+use bc_steps::Steps;
 use std::alloc::{AllocError, Global};
 use std::marker::Brand;
 use std::sync::ledger::{Blank, Ledger};

@@ -1,0 +1,6 @@
+//! Guards of task parameters as trees of tests of a mask.
+#![tactic(auto)]
+
+pub mod guard;
+#[cfg(test)]
+mod tests;
