@@ -1,8 +1,11 @@
 pub mod Course
 pub mod Enabled
+pub mod ExampleEvaluation
 pub mod ExampleLimits
 pub mod ExampleRuns
 pub mod ExampleStores
 pub mod Lists
 pub mod Orders
 pub mod Sound
+pub mod Tuples
+pub mod Placed

@@ -2,7 +2,6 @@
 use Rattle.std.specs.Prelude.{ℕ, ◌+◌, Bool, true, false, not, if◌then◌else◌, ◌&&◌, ◌==◌, nat_lt, List, [], ◌∷◌, ◌++◌, length, map, filter, slice_get, slice_set, Option, Some, None}
 use Rattle.std.specs.List.{range_with_len, filter_map}
 use Rattle.std.specs.Cmp.Lexicographic.{pointwise}
-use Rattle.std.specs.Ordering.{int_eq}
 use Rattle.bc_data.specs.declared.run.Value.{Value}
 use Rattle.bc_data.specs.declared.run.Value.TheVariants as value
 use Rattle.bc_data.specs.declared.run.TagRef.{TagRef}
@@ -16,20 +15,8 @@ use Rattle.bc_data.specs.declared.run.FaultKind.{FaultKind}
 use Rattle.bc_data.specs.declared.run.FaultKind.TheVariants as fault
 use Rattle.bc_mean.specs.declared.plain.Plain.{Plain}
 use Rattle.bc_mean.specs.Store.{cells_in}
+use Rattle.bc_mean.specs.Values.{same_tag, same_value}
 use Rattle.bc_mean.specs.Work.{Work, newest}
-
-abbrev pub same_value : Value → Value → Bool
-same_value (value.Int m) (value.Int n) = int_eq m n
-same_value (value.Bool a) (value.Bool b) = if a then b else not b
-same_value value.Null value.Null = true
-same_value (value.Old m) (value.Old n) = m == n
-same_value (value.New m) (value.New n) = m == n
-same_value _ _ = false
-
-abbrev pub same_tag : TagRef → TagRef → Bool
-same_tag (tag.Old m) (tag.Old n) = m == n
-same_tag (tag.New m) (tag.New n) = m == n
-same_tag _ _ = false
 
 abbrev pub same_kind : Kind → Kind → Bool
 same_kind (kind.Class c) (kind.Class d) = c == d

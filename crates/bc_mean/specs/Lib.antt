@@ -1,11 +1,17 @@
 pub mod Store
 pub mod Enabled
+pub mod Listing
+pub mod Values
 pub mod Work
+pub mod Evaluate
 pub mod Execute
 pub mod Changes
+pub mod Commit
 pub mod Outcome
 pub mod Serial
 pub mod Orders
 pub mod Sound
 pub mod Laws
 pub mod Examples
+pub mod EvaluationTerms
+pub mod EvaluationExamples

@@ -1,6 +1,7 @@
 -- What an invocation comes to in a store.
-use Rattle.std.specs.Prelude.{[], slice_get, Option, Some, None}
+use Rattle.std.specs.Prelude.{[], map, slice_get, Option, Some, None}
 use Rattle.bc_data.specs.Program.{Parts}
+use Rattle.bc_data.specs.ProgramView.{view_class, view_task}
 use Rattle.bc_data.specs.declared.program.Task.{Task}
 use Rattle.bc_data.specs.declared.run.Invocation.{Invocation}
 use Rattle.bc_data.specs.declared.run.Fault.{Fault}
@@ -12,12 +13,13 @@ use Rattle.bc_data.specs.declared.run.Ran.TheVariants as ran
 use Rattle.bc_data.specs.declared.run.Outcome.{Outcome}
 use Rattle.bc_mean.specs.declared.plain.Plain.{Plain}
 use Rattle.bc_mean.specs.Work.{Work, Got, Gives, Stops, Halt, Faulted, Missing, Wrong, look_of}
-use Rattle.bc_mean.specs.Execute.{Flow, execute_all}
+use Rattle.bc_mean.specs.Evaluate.{World}
+use Rattle.bc_mean.specs.Execute.{Flow, execute_task, most_turns}
 use Rattle.bc_mean.specs.Changes.{changes_between, fault_of_room}
 
 -- at the start: nothing done, and the parameters touched, in their order
 abbrev pub work_at_start : Invocation → Work
-work_at_start v = record { changed = []; made = []; instances = []; text = []; touched = v.objects }
+work_at_start v = record { changed = []; made = []; instances = []; text = []; turns = most_turns; touched = v.objects }
 
 -- A halt that never comes for an accepted program is shown as some fault.
 abbrev pub fault_of : Halt → Fault
@@ -25,18 +27,21 @@ fault_of (Faulted f) = f
 fault_of (Missing id) = record { kind = fault.Null; at = record { line = 0; column = 0 } }
 fault_of Wrong = record { kind = fault.Null; at = record { line = 0; column = 0 } }
 
--- A body that runs off its end exits too. A halt leaves nothing but its fault.
+-- A body that runs off its end exits too. A halt leaves nothing but its fault and what it touched.
 abbrev pub ending : Plain → Got Flow → Outcome
 ending S (Gives flow w) = record { ran = ran.Commit (changes_between S w); touched = w.touched }
 ending S (Stops h w) = record { ran = ran.Faulted (fault_of h); touched = w.touched }
 
-abbrev pub body_run : Plain → Option Task → Invocation → Got Flow
-body_run S None v = Stops Wrong (work_at_start v)
-body_run S (Some t) v = execute_all (look_of S) v.objects t.body.items (work_at_start v)
+abbrev pub world_of : Parts → Plain → Invocation → World
+world_of P S v = record { look = look_of S; classes = map view_class P.classes; objects = v.objects }
+
+abbrev pub body_run : Parts → Plain → Option Task → Invocation → Got Flow
+body_run P S None v = Stops Wrong (work_at_start v)
+body_run P S (Some t) v = execute_task (world_of P S v) (view_task t) v (work_at_start v)
 
 -- how the body of the invocation's task ends: it exits with these changes, or faults
 abbrev pub body_outcome : Parts → Plain → Invocation → Outcome
-body_outcome P S v = ending S (body_run S (slice_get P.tasks v.task) v)
+body_outcome P S v = ending S (body_run P S (slice_get P.tasks v.task) v)
 
 -- the place of a task
 abbrev pub place_of : Option Task → Place

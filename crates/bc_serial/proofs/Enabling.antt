@@ -1,5 +1,5 @@
 -- Which invocations of a small program are enabled.
-use Rattle.std.proofs.Common.{◌≡◌, ℕ, zero, suc, ◌+◌, ◌-◌, ◌*◌, ◌<◌, ◌≤◌, Bool, true, false, cond, List, [], ◌∷◌, ◌++◌, ◌&&◌, ◌==◌, length, map, filter, refl, sym, ◌∙◌, ap, arith, Option, Some, None}
+use Rattle.std.proofs.Common.{◌≡◌, ℕ, zero, suc, ◌+◌, ◌<◌, ◌≤◌, Bool, true, false, cond, List, [], ◌∷◌, ◌++◌, ◌&&◌, ◌==◌, length, map, filter, refl, ◌∙◌, ap, arith, Some}
 use Rattle.std.specs.Prelude.{slice_get}
 use Rattle.std.specs.List.{range_with_len, flat_map}
 use Rattle.std.proofs.lemmas.List.Elements.{filter-append}
@@ -7,10 +7,10 @@ use Rattle.bc_data.specs.Program.{Parts}
 use Rattle.bc_data.specs.declared.program.Task.{Task}
 use Rattle.bc_data.specs.declared.program.Param.{Param}
 use Rattle.bc_data.specs.declared.run.Invocation.{Invocation}
-use Rattle.bc_mean.specs.Enabled.{take_all, is_enabled, tuples, invocations_of, all_invocations, all_enabled}
+use Rattle.bc_mean.specs.Enabled.{take_all, is_enabled, tuples, invocations_of, all_enabled}
 use Rattle.bc_small.specs.Small.{IsStartup}
 use Rattle.bc_serial.specs.Run.{CanRun, AllCanRun, on_startup}
-use Rattle.bc_serial.proofs.Turns.{flag_mask, store_at}
+use Rattle.bc_serial.proofs.Turns.{store_at}
 
 pub can_run_at : (ts : List Task) (k : ℕ) → AllCanRun ts → k < length ts → (t : Task) × (slice_get ts k ≡ Some t) × CanRun t
 can_run_at [] k h lt = absurd (omega arith)

@@ -1,6 +1,6 @@
 -- How a run of a small program ends.
-use Rattle.std.proofs.Common.{◌≡◌, ℕ, zero, suc, ◌+◌, ◌-◌, ◌*◌, ◌<◌, ◌≤◌, Bool, true, false, cond, List, [], ◌∷◌, ◌++◌, ◌==◌, ◌||◌, length, map, ⊎_elim, inl, inr, ◌⊎◌, refl, sym, ◌∙◌, ap, subst, arith, Option, Some, None, append-nil, zero-add, All}
-use Rattle.std.specs.Prelude.{slice_get, unwrap_or, nat_lt, nat_le}
+use Rattle.std.proofs.Common.{◌≡◌, ℕ, zero, suc, ◌+◌, ◌-◌, ◌<◌, ◌≤◌, Bool, true, false, cond, List, [], ◌∷◌, ◌++◌, ◌||◌, length, map, ⊎_elim, ◌⊎◌, refl, sym, ◌∙◌, ap, subst, arith, Option, Some, None, zero-add, All}
+use Rattle.std.specs.Prelude.{slice_get, nat_le}
 use Rattle.std.specs.List.{range_with_len, find, filter_map, cons_option, AllByRecursion}
 use Rattle.std.proofs.lemmas.Bool.{leb-true, leb-false, lt-ltb, eq-eqb}
 use Rattle.std.proofs.lemmas.Bool.Decides.{eqb_tells, leb_tells}
@@ -9,20 +9,19 @@ use Rattle.std.proofs.lemmas.List.FromFn.{length-map-range_with_len}
 use Rattle.bc_data.specs.Program.{Parts}
 use Rattle.bc_data.specs.declared.program.Task.{Task}
 use Rattle.bc_data.specs.declared.run.Invocation.{Invocation}
-use Rattle.bc_data.specs.declared.run.Outcome.{Outcome}
 use Rattle.bc_data.specs.declared.run.FaultKind.TheVariants as fault
 use Rattle.bc_data.specs.declared.run.Ran.TheVariants as ran
 use Rattle.bc_data.specs.declared.run.Stop.{Stop}
 use Rattle.bc_data.specs.declared.run.Stop.TheVariants as stop
 use Rattle.bc_mean.specs.Enabled.{all_enabled, is_some_and}
-use Rattle.bc_mean.specs.Outcome.{outcome, place_of, refused_room}
+use Rattle.bc_mean.specs.Outcome.{outcome}
 use Rattle.bc_mean.specs.Changes.{fault_of_room, apply_changes}
-use Rattle.bc_mean.specs.Serial.{Course, Failed, course_at_start, serial_step, serial_steps, step_pending, step_ran, try_commit, committed, stopped, is_crowded, IsQuiet, IsFault}
-use Rattle.bc_serial.specs.declared.run.Failure.{Failure}
+use Rattle.bc_mean.specs.Serial.{Course, Failed, course_at_start, serial_step, serial_steps, step_pending, step_ran, committed, stopped, is_crowded, IsQuiet, IsFault}
 use Rattle.bc_serial.specs.Run.{CanRun, AllCanRun, text_of, exit_of, on_startup, has_room, full_failure, turns_from, stop_of, failed_of, failure_of, failures_in, IsRunOf}
 use Rattle.bc_serial.proofs.Turns.{store_at, queue_at, course_at, IsUnderWay}
 use Rattle.bc_serial.proofs.Enabling.{can_run_at, all_enabled_at}
-use Rattle.bc_serial.proofs.Performing.{changes_of, commits, performs}
+use Rattle.bc_data.specs.ProgramView.{view_class}
+use Rattle.bc_serial.proofs.Performing.{changes_of, commits, performs_task}
 use Rattle.bc_serial.proofs.Turning.{has, has-append, inside, AllBelow, range_below, below-append}
 use Rattle.bc_serial.proofs.Going.{steps_more}
 
@@ -33,8 +32,7 @@ no_room_of out exit text h = rw (lt-ltb 16777216 (length out + length text) h) r
 faults_full : (P : Parts) (out : List ℕ) (k : ℕ) (t : Task) → slice_get P.tasks k ≡ Some t → CanRun t → 16777216 < length out + length (text_of t.body.items) →
     outcome P (store_at true out) (on_startup k) ≡ record { ran = ran.Faulted (full_failure P.tasks k).fault; touched = 0 ∷ [] }
 faults_full P out k t e h lt =
-    let short : length {A = ℕ} [] + length (text_of t.body.items) ≤ 65536 = omega (arith, h.short) in
-    rw (e, performs true out t.body.items [] h.body short, no_room_of out (exit_of t.body.items) (text_of t.body.items) lt) refl
+    rw (e, performs_task (map view_class P.classes) true out k t h, no_room_of out (exit_of t.body.items) (text_of t.body.items) lt) refl
 
 -- at the limit of commits these are pending and those have failed
 abbrev waiting : List ℕ → List Invocation → List ℕ → List Failed → Course

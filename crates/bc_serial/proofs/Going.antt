@@ -1,5 +1,5 @@
 -- One more commit in a run of a small program.
-use Rattle.std.proofs.Common.{◌≡◌, ℕ, zero, suc, ◌+◌, ◌-◌, ◌*◌, ◌<◌, ◌≤◌, Bool, true, false, cond, List, [], ◌∷◌, ◌++◌, ◌==◌, length, map, ⊎_elim, refl, sym, ◌∙◌, ap, subst, arith, Option, Some, None, append-nil, length-append}
+use Rattle.std.proofs.Common.{◌≡◌, ℕ, zero, suc, ◌+◌, ◌-◌, ◌<◌, ◌≤◌, Bool, true, false, cond, List, [], ◌∷◌, ◌++◌, ◌==◌, length, map, ⊎_elim, refl, sym, ◌∙◌, ap, subst, arith, Option, Some, None, append-nil, length-append}
 use Rattle.std.specs.Prelude.{slice_get, unwrap_or, nat_lt, option_and_then}
 use Rattle.std.specs.List.{range_with_len}
 use Rattle.std.proofs.lemmas.Bool.{le-ltb, ltb-true}
@@ -8,16 +8,15 @@ use Rattle.std.proofs.lemmas.List.FromFn.{length-map-range_with_len}
 use Rattle.bc_data.specs.Program.{Parts}
 use Rattle.bc_data.specs.declared.program.Task.{Task}
 use Rattle.bc_data.specs.declared.run.Invocation.{Invocation}
-use Rattle.bc_data.specs.declared.run.Ran.TheVariants as ran
 use Rattle.bc_data.specs.declared.run.Stop.TheVariants as stop
 use Rattle.bc_mean.specs.declared.plain.Plain.{Plain}
 use Rattle.bc_mean.specs.Store.{start_store}
 use Rattle.bc_mean.specs.Enabled.{all_enabled}
 use Rattle.bc_mean.specs.Outcome.{outcome}
-use Rattle.bc_mean.specs.Serial.{Course, course_at_start, serial_step, serial_steps, step_pending, step_ran, try_commit, committed, stopped, is_crowded, after_commit, after_ran, unless_crowded, replay, replay_from, IsQuiet, IsFault}
+use Rattle.bc_mean.specs.Serial.{Course, course_at_start, serial_step, serial_steps, step_pending, step_ran, try_commit, committed, stopped, is_crowded, after_commit, after_ran, unless_crowded, replay_from}
 use Rattle.bc_serial.specs.Run.{CanRun, AllCanRun, text_of, exit_of, on_startup, turns_from, next_turn}
 use Rattle.bc_serial.proofs.Turns.{store_at, queue_at, course_at, IsUnderWay}
-use Rattle.bc_serial.proofs.Enabling.{can_run_at, enabled_startup, all_enabled_at}
+use Rattle.bc_serial.proofs.Enabling.{enabled_startup, all_enabled_at}
 use Rattle.bc_serial.proofs.Performing.{changes_of, commits, applied}
 use Rattle.bc_serial.proofs.Turning.{behind, pending_turn, turns_next, turns_here}
 

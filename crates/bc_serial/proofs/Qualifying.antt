@@ -1,5 +1,5 @@
 -- The program of a small text can be run.
-use Rattle.std.proofs.Common.{◌≡◌, ℕ, suc, ◌+◌, ◌≤◌, List, [], ◌∷◌, ◌++◌, length, refl, sym, ◌∙◌, ap, subst, arith, length-append}
+use Rattle.std.proofs.Common.{◌≡◌, ℕ, suc, ◌+◌, ◌≤◌, List, [], ◌∷◌, length, refl, sym, ◌∙◌, ap, subst, arith, length-append}
 use Rattle.std.specs.List.{sum_by, AllByRecursion}
 use Rattle.std.proofs.lemmas.List.Sums.{sum_by-cons}
 use Rattle.bc_data.specs.declared.program.Task.{Task}
@@ -7,8 +7,6 @@ use Rattle.bc_data.specs.declared.program.Stat.{Stat}
 use Rattle.bc_data.specs.declared.program.Stat as stat
 use Rattle.bc_data.specs.declared.program.Part.{Part}
 use Rattle.bc_data.specs.declared.program.Part.TheVariants as part
-use Rattle.bc_data.specs.declared.program.Change.{Change}
-use Rattle.bc_data.specs.declared.program.Change.TheVariants as change
 use Rattle.bc_small.specs.Small.{Step, Prints, Exits, SmallTask, printed, AreTexts, AreSteps, IsSmallTask, AreSmallTasks}
 use Rattle.bc_serial.specs.Run.{ArePlainParts, IsFlagExit, IsSmallBody, CanRun, AllCanRun, text_of, text_of_parts}
 

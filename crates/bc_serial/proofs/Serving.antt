@@ -1,6 +1,6 @@
 -- What the loop of a run keeps.
-use Rattle.std.proofs.Common.{◌≡◌, ℕ, zero, suc, ◌+◌, ◌*◌, ◌<◌, ◌≤◌, Bool, true, false, List, [], ◌∷◌, ◌++◌, length, refl, sym, ◌∙◌, ap, subst, arith, Option, Some, None, Result, Ok, Err, ◌⊎◌}
-use Rattle.std.specs.Prelude.{slice_get, unwrap_or, IfOk}
+use Rattle.std.proofs.Common.{◌≡◌, ℕ, zero, suc, ◌+◌, ◌<◌, ◌≤◌, true, false, List, [], ◌∷◌, length, refl, subst, arith, Some, Result, Ok, Err, ◌⊎◌}
+use Rattle.std.specs.Prelude.{slice_get, IfOk}
 use Rattle.bc_data.specs.Program.{Parts}
 use Rattle.bc_data.specs.declared.program.Task.{Task}
 use Rattle.bc_data.specs.declared.run.Invocation.{Invocation}

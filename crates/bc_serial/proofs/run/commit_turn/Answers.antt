@@ -1,7 +1,7 @@
-use Rattle.std.proofs.Common.{◌≡◌, ◌++◌, ◌∷◌, [], true, get_or, sym, ◌∙◌, ap}
+use Rattle.std.proofs.Common.{◌++◌, ◌∷◌, [], true, get_or, ◌∙◌, ap}
 use Rattle.std.specs.Prelude.{unwrap_or}
 use Rattle.std.proofs.lemmas.Option.{slice_get-get_or}
-use Rattle.bc_serial.specs.Run.{text_of, exit_of, on_startup}
+use Rattle.bc_serial.specs.Run.{text_of, exit_of}
 use Rattle.bc_serial.proofs.run.commit_turn.Goals as goal
 
 pub returns : goal.returns

@@ -1,4 +1,4 @@
-use Rattle.std.proofs.Common.{◌≡◌, sym, ◌∙◌, arith}
+use Rattle.std.proofs.Common.{sym, ◌∙◌, arith}
 use Rattle.bc_serial.specs.Run.{has_room}
 use Rattle.bc_serial.proofs.Rooms.{find_next}
 use Rattle.bc_serial.proofs.run.first_with_room.Goals as goal

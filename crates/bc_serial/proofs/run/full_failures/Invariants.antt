@@ -1,4 +1,4 @@
-use Rattle.std.proofs.Common.{◌≡◌, length, map}
+use Rattle.std.proofs.Common.{◌≡◌, map}
 use Rattle.std.specs.List.{range_with_len}
 use Rattle.bc_serial.specs.Run.{full_failure}
 use Rattle.bc_serial.proofs.run.full_failures.Given as goal

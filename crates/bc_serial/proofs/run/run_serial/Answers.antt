@@ -1,4 +1,4 @@
-use Rattle.std.proofs.Common.{◌≡◌, ◌<◌, length, subst, sym, ap, arith, refl}
+use Rattle.std.proofs.Common.{◌≡◌, ◌<◌, length, subst, arith}
 use Rattle.bc_serial.specs.Run.{Commits}
 use Rattle.bc_serial.proofs.Going.{starts}
 use Rattle.bc_serial.proofs.Serving.{IsServed, all_short, serves, served_ok, over_ok}

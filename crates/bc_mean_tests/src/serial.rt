@@ -1,0 +1,252 @@
+// The serial run of a program, one call of the meaning after the other. The store fits the program all along.
+
+ghost use Rattle.std.specs.Prelude.{◌≡◌, ◌≤◌, length, IfOk};
+ghost use Rattle.bc_mean.specs.Changes.{apply_changes};
+ghost use Rattle.bc_mean.specs.Commit.{HasRoom};
+ghost use Rattle.bc_mean.specs.Enabled.{IsEnabled};
+ghost use Rattle.bc_mean.specs.Outcome.{outcome};
+ghost use Rattle.bc_mean.specs.Store.{Fits};
+
+use bc_data::list::List;
+use bc_data::program::Program;
+use bc_data::run::{Changes, Fault, Invocation, Outcome, Ran};
+use bc_fitness::{commits_have_room, keeps_fit};
+use bc_mean::plain::Plain;
+use bc_mean::{all_enabled, apply, is_enabled, start};
+use bc_replay::start_fits;
+use bc_tree::run_tree;
+use std::alloc::Global;
+use std::process::Abort;
+use std::test::Fail;
+
+/// A failed invocation, its fault, and the objects that it touched.
+#[derive(Debug, Drop)]
+pub struct Failure {
+    pub v: Invocation,
+    pub fault: Fault,
+    pub touched: List<u32>,
+}
+
+/// A run so far: its store, the invocations that are to come, those that were committed, and those that failed.
+#[derive(Drop)]
+pub struct Course {
+    pub store: Plain,
+    pub pending: List<Invocation>,
+    pub history: List<Invocation>,
+    pub failures: List<Failure>,
+}
+
+/// A run and whether it goes on behind a step.
+#[derive(Drop)]
+pub struct Step {
+    pub course: Course,
+    pub goes_on: bool,
+}
+
+// All enabled invocations of a store.
+fn enabled(alloc: Global, program: &Program, store: &Plain) -> Result<List<Invocation>, Fail>
+    requires { Fits program.now store.now }
+{
+    Ok(all_enabled(alloc, program, store)?)
+}
+
+// The numbers of the objects that changes write.
+fn written(alloc: Global, changes: &Changes) -> Result<List<u32>, Fail> {
+    let mut ids = List::new(alloc);
+    for written in &changes.bodies {
+        ids.push(written.id)?;
+    }
+    Ok(ids)
+}
+
+// Whether a failure touched one of these objects.
+fn touches(failure: &Failure, ids: &[u32]) -> bool {
+    ids.iter().any(|id| failure.touched.contains(id))
+}
+
+// The failures that touched none of these objects.
+fn untouched(alloc: Global, failures: List<Failure>, ids: &[u32]) -> Result<List<Failure>, Fail> {
+    let mut kept = List::new(alloc);
+    for failure in failures {
+        if !touches(&failure, ids) {
+            kept.push(failure)?;
+        }
+    }
+    Ok(kept)
+}
+
+// The invocations that are still enabled.
+fn still_enabled(
+    alloc: Global,
+    program: &Program,
+    store: &Plain,
+    pending: &[Invocation],
+) -> Result<List<Invocation>, Fail> {
+    let mut kept = List::new(alloc);
+    for v in pending {
+        if is_enabled(program, store, *v) {
+            kept.push(*v)?;
+        }
+    }
+    Ok(kept)
+}
+
+fn has_failed(failures: &[Failure], v: Invocation) -> bool {
+    failures.iter().any(|failure| failure.v == v)
+}
+
+// Appends those of these invocations that neither are pending nor have failed.
+fn append_new(
+    pending: &mut List<Invocation>,
+    failures: &[Failure],
+    all: &[Invocation],
+) -> Result<(), Fail> {
+    for v in all {
+        if !pending.contains(v) && !has_failed(failures, *v) {
+            pending.push(*v)?;
+        }
+    }
+    Ok(())
+}
+
+// A run behind the commit of an invocation.
+fn committed(
+    alloc: Global,
+    program: &Program,
+    course: Course,
+    v: Invocation,
+    changes: Changes,
+) -> Result<Course, Fail>
+    requires room { HasRoom course.store changes }
+    requires fits { Fits program.now (apply_changes course.store changes) }
+    ensures { IfOk result (λ behind. Fits program.now behind.store) }
+{
+    let Course {
+        mut store,
+        pending,
+        mut history,
+        failures,
+    } = course;
+    let ids = written(alloc, &changes)?;
+    apply(alloc, &mut store, changes)?;
+    history.push(v)?;
+    let failures = untouched(alloc, failures, ids.as_slice())?;
+    let mut pending = still_enabled(alloc, program, &store, pending.as_slice())?;
+    let all = enabled(alloc, program, &store)?;
+    append_new(&mut pending, failures.as_slice(), all.as_slice())?;
+    Ok(Course {
+        store,
+        pending,
+        history,
+        failures,
+    })
+}
+
+// A run behind a step that ended so: a commit, unless the history has as many as it may have, or a failure.
+fn ended(
+    alloc: Global,
+    program: &Program,
+    course: Course,
+    v: Invocation,
+    out: Outcome,
+    limit: usize,
+) -> Result<Step, Fail>
+    requires fits { Fits program.now course.store }
+    requires enabled { IsEnabled program.now course.store v }
+    requires out { out ≡ outcome program.now course.store v }
+    ensures { IfOk result (λ step. Fits program.now step.course.store) }
+{
+    program.is_well_typed();
+    commits_have_room();
+    keeps_fit();
+    let mut course = course;
+    let Outcome { ran, touched } = out;
+    match ran {
+        Ran::Faulted(fault) => {
+            course.failures.push(Failure { v, fault, touched })?;
+            Ok(Step {
+                course,
+                goes_on: true,
+            })
+        }
+        Ran::Commit(changes) => {
+            if course.history.len() >= limit {
+                course.pending.push(v)?;
+                return Ok(Step {
+                    course,
+                    goes_on: false,
+                });
+            }
+            let course = committed(alloc, program, course, v, changes)?;
+            Ok(Step {
+                course,
+                goes_on: true,
+            })
+        }
+    }
+}
+
+// A run behind its first pending invocation.
+fn advance(
+    rt: &impl Abort,
+    alloc: Global,
+    program: &Program,
+    course: Course,
+    limit: usize,
+) -> Result<Step, Fail>
+    requires { Fits program.now course.store }
+    ensures { IfOk result (λ step. Fits program.now step.course.store) }
+{
+    let mut course = course;
+    if course.pending.is_empty() {
+        return Ok(Step {
+            course,
+            goes_on: false,
+        });
+    }
+    let first = course.pending.remove(0);
+    let v = &first;
+    assert!(rt; is_enabled(program, &course.store, *v));
+    let out = run_tree(alloc, program, &course.store, *v)?;
+    ended(alloc, program, course, *v, out, limit)
+}
+
+// A run at its start.
+fn begun(alloc: Global, program: &Program, input: &[u8]) -> Result<Course, Fail>
+    requires { length input.now ≤ 65536 }
+    ensures { IfOk result (λ course. Fits program.now course.store) }
+{
+    program.is_well_typed();
+    start_fits();
+    let store = start(alloc, program, input)?;
+    let pending = enabled(alloc, program, &store)?;
+    Ok(Course {
+        store,
+        pending,
+        history: List::new(alloc),
+        failures: List::new(alloc),
+    })
+}
+
+/// The whole run of a program, up to its end or up to an invocation that would pass the limit of commits. That one stays
+/// pending.
+pub fn serial(
+    rt: &impl Abort,
+    alloc: Global,
+    program: &Program,
+    input: &[u8],
+    limit: usize,
+) -> Result<Course, Fail>
+    requires { length input.now ≤ 65536 }
+    ensures { IfOk result (λ course. Fits program.now course.store) }
+{
+    let mut course = begun(alloc, program, input)?;
+    for _ in 0..1000 {
+        let step = advance(rt, alloc, program, course, limit)?;
+        if !step.goes_on {
+            return Ok(step.course);
+        }
+        course = step.course;
+    }
+    Err("a run ends within 1000 steps".into())
+}

@@ -1,0 +1,11 @@
+pub mod Arms
+pub mod Chains
+pub mod Changes
+pub mod Classes
+pub mod Forms
+pub mod Reaching
+pub mod Padding
+pub mod Quotients
+pub mod Rows
+pub mod Sequences
+pub mod Weights
