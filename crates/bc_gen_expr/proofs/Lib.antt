@@ -1,0 +1,4 @@
+pub mod Arms
+pub mod Growing
+pub mod Rows
+pub mod Stays

@@ -1,0 +1,7 @@
+use Rattle.std.proofs.Common.{map, take}
+use Rattle.bc_data.specs.ProgramView.{view_class}
+use Rattle.bc_gen_stmt.specs.Units.{HasClasses}
+use Rattle.bc_gen_stmt.proofs.code.put_classes.Given as goal
+
+abbrev pub invariant-loop-class : goal.invariant-loop-class
+invariant-loop-class l = HasClasses (map view_class l.classes) (map view_class (take l.class-index l.classes)) l.initial.units l.units l.codes
