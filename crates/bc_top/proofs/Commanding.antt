@@ -46,10 +46,11 @@ names_file words x name h a is =
     two words x [] h
     ∙ ap (λ w. w ∷ get_or words 1 [] ∷ []) (sym a ∙ is)
 
-pub no_command : (words : List (List ℕ)) → IsNoSerial words → AreNone words (codes "show") → AreNone words (codes "check") → IsNoCommand words
-no_command words serial show check (command.Serial commits) file is = serial commits file is
-no_command words serial show check command.Show file is = show file is.0
-no_command words serial show check command.Check file is = check file is.0
+pub no_command : (words : List (List ℕ)) → IsNoSerial words → AreNone words (codes "show") → AreNone words (codes "check") → AreNone words (codes "code") → IsNoCommand words
+no_command words serial show check code (command.Serial commits) file is = serial commits file is
+no_command words serial show check code command.Show file is = show file is.0
+no_command words serial show check code command.Check file is = check file is.0
+no_command words serial show check code command.Code file is = code file is.0
 
 pub on_true : (b : Bool) {P : Type 0} → (true ≡ b → P) → OnTrue b P
 on_true true h = h refl

@@ -1,6 +1,7 @@
 -- What the top call answers, and why.
 use Rattle.std.specs.Prelude.{◌≡◌, ◌⊎◌, ℕ, ◌<◌, ◌≤◌, List, [], length, Option, Some, None, IfSome, IsSomeAnd}
 use Rattle.bc_data.specs.Program.{Parts}
+use Rattle.bc_data.specs.ProgramView.{view_program}
 use Rattle.bc_data.specs.SourceTree.{Sequence, Item}
 use Rattle.bc_data.specs.declared.run.Invocation.{Invocation}
 use Rattle.bc_data.specs.declared.run.Place.{Place}
@@ -8,6 +9,9 @@ use Rattle.bc_data.specs.declared.run.Stop.{Stop}
 use Rattle.bc_data.specs.declared.run.Stop.TheVariants as stop
 use Rattle.bc_base.specs.Outside.{Rose, Appends, AppendsPart}
 use Rattle.bc_base.specs.Files.{Told, file_of, with_asked}
+use Rattle.bc_code.specs.declared.code.Code.{Code}
+use Rattle.bc_code.specs.Listing.{listing_text}
+use Rattle.bc_code.specs.Translation.{Translates}
 use Rattle.bc_print.specs.Canonical.{program_text}
 use Rattle.bc_data.specs.Typed.{TypedProgram}
 use Rattle.bc_small.specs.Small.{SmallTask, IsProgramOf}
@@ -67,6 +71,12 @@ Shows text a = (items : Sequence Item) × (program : TypedProgram) × IsProgramT
 abbrev pub Checks : List ℕ → Answer → Type 0
 Checks text a = (items : Sequence Item) × (program : TypedProgram) × IsProgramText text items program × (a ≡ answer_of_text (ok_text (length program.classes) (length program.tag_types) (length program.tasks)))
 
+-- The text is a program, and the answer is the listing of its code.
+abbrev pub Lists : List ℕ → Answer → Type 0
+Lists text a =
+    (items : Sequence Item) × (program : Parts) × (code : Code) × IsProgramText text items (view_program program) × Translates (view_program program) code
+    × (a ≡ answer_of_text (listing_text program code))
+
 -- The text is no program, and the answer tells its one fault.
 abbrev pub Refuses : List ℕ → Answer → Type 0
 Refuses text a = (kind : RefusedKind) × (at : Place) × IsRefused text kind at × (a ≡ answer_of_fault kind at)
@@ -76,6 +86,7 @@ abbrev pub IsMadeOf : Command → List ℕ → Answer → Type 0
 IsMadeOf (command.Serial commits) text a = Serves text commits a ⊎ (IsNotSmall text × (a ≡ answer_of_fault kind.Unexpected (record { line = 1; column = 1 })))
 IsMadeOf command.Show text a = Shows text a ⊎ Refuses text a
 IsMadeOf command.Check text a = Checks text a ⊎ Refuses text a
+IsMadeOf command.Code text a = Lists text a ⊎ Refuses text a
 
 -- where the shelf tells its files, this is the content of that name
 abbrev pub IsFile : Option Told → List ℕ → List ℕ → Type 0

@@ -7,12 +7,13 @@ ghost use Rattle.bc_top.specs.Commands.{IsCommand, IsNoCommand, IsNoSerial, AreN
 use bc_data::list::Bytes;
 use bc_data::text::read_decimal;
 
-/// A command without the name of its file: `serial` with its limit of commits, `show` or `check`.
+/// A command without the name of its file: `serial` with its limit of commits, `show`, `check` or `code`.
 #[derive(Clone, Copy, Debug, PartialEq, Eq)]
 pub enum Command {
     Serial(u64),
     Show,
     Check,
+    Code,
 }
 
 // The limit of commits, where the words are `serial FILE COMMITS` with COMMITS from 1 to 256.
@@ -60,7 +61,10 @@ pub fn command_of(words: &[Bytes]) -> Option<Command>
         return Some(Command::Show);
     }
     if is_on_file(words, b"check") {
-        Some(Command::Check)
+        return Some(Command::Check);
+    }
+    if is_on_file(words, b"code") {
+        Some(Command::Code)
     } else {
         None
     }

@@ -4,6 +4,8 @@
 mod answer;
 #[cfg(test)]
 mod check_tests;
+#[cfg(test)]
+mod code_tests;
 mod commands;
 mod make;
 #[cfg(test)]

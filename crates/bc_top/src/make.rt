@@ -4,15 +4,17 @@ ghost use Rattle.std.specs.Prelude.{◌≡◌, ◌⊎◌, ◌≤◌, length, IfO
 ghost use Rattle.bc_serial.specs.Run.{IsSmallStop};
 ghost use Rattle.bc_top.specs.Commands.{IsInRange, file_limit};
 ghost use Rattle.bc_top.specs.Texts.{stop_text, ok_text};
-ghost use Rattle.bc_top.specs.Contract.{Shows, Checks, Refuses, IsMadeOf, answer_of_text, answer_of_fault, status_of};
+ghost use Rattle.bc_top.specs.Contract.{Shows, Checks, Lists, Refuses, IsMadeOf, answer_of_text, answer_of_fault, status_of};
 
 use crate::answer::Answer;
 use crate::commands::Command;
 use crate::reader::{RefusedKind, TextFault, read_program};
 use crate::texts::{end_text, ok_text, refused_text, spent_text};
+use bc_code::listing::listing;
 use bc_data::list::{Bytes, List};
 use bc_data::program::Program;
 use bc_data::run::{Place, Stop};
+use bc_gen_stmt::generate;
 use bc_print::print_tree;
 use bc_serial::run::{Run, run_serial};
 use bc_small::read_small;
@@ -122,6 +124,21 @@ fn check(alloc: Global, text: &[u8]) -> Result<Answer, AllocError>
     }
 }
 
+// Lists the code of a text.
+fn list(alloc: Global, text: &[u8]) -> Result<Answer, AllocError>
+    requires { length text.now ≤ 1048576 }
+    ensures { IfOk result (λ a. Lists text.now a ⊎ Refuses text.now a) }
+{
+    match read_program(alloc, text) {
+        Ok(read) => {
+            let code = generate(alloc, &read.program)?;
+            Ok(answer_of_text(alloc, listing(alloc, &code, &read.program)?))
+        }
+        Err(TextFault::Refused(fault, at)) => answer_of_fault(alloc, fault, at),
+        Err(TextFault::Memory) => Err(AllocError),
+    }
+}
+
 /// The answer that a command makes of the text of its file.
 pub fn make(alloc: Global, command: Command, text: &[u8]) -> Result<Answer, AllocError>
     requires within { length text.now ≤ file_limit command }
@@ -132,5 +149,6 @@ pub fn make(alloc: Global, command: Command, text: &[u8]) -> Result<Answer, Allo
         Command::Serial(commits) => serve(alloc, text, commits),
         Command::Show => show(alloc, text),
         Command::Check => check(alloc, text),
+        Command::Code => list(alloc, text),
     }
 }

@@ -33,7 +33,7 @@ fn file_limit(command: Command) -> usize
 {
     match command {
         Command::Serial(_) => 65_536,
-        Command::Show | Command::Check => 1_048_576,
+        Command::Show | Command::Check | Command::Code => 1_048_576,
     }
 }
 
