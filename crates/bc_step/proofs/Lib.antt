@@ -1,0 +1,13 @@
+pub mod Changed
+pub mod Holds
+pub mod Lookups
+pub mod ObjectRules
+pub mod Opening
+pub mod Parts
+pub mod Quotients
+pub mod Rules
+pub mod Said
+pub mod Settling
+pub mod Stacks
+pub mod Steps
+pub mod TagRules

@@ -1,0 +1,74 @@
+// The slots and tag variables of a new call.
+
+ghost use Rattle.std.specs.Prelude.{◌≡◌, ◌-◌, ◌^◌, ◌<◌, ◌∷◌, ◌++◌, pos, length, replicate, take, map, IfOk, OnOk, OnErr};
+ghost use Rattle.bc_data.specs.declared.run.Value.TheVariants as value;
+ghost use Rattle.bc_data.specs.declared.run.TagRef.TheVariants as tag;
+
+use bc_data::run::{TagRef, Value};
+use std::alloc::{AllocError, Global};
+
+/// So many more elements of one value. On `Err` the list is as it was.
+#[inline]
+pub(crate) fn pad<T: Copy>(list: &mut Vec<T>, missing: usize, x: T) -> Result<(), AllocError>
+    requires { missing < 2 ^ 32 }
+    ensures ok { OnOk result (list.new.items ≡ list.old.items ++ replicate missing x) }
+    ensures err { OnErr result (list.new.items ≡ list.old.items) }
+{
+    list.resize(list.len() + missing, x)
+}
+
+#[inline]
+fn append(
+    slots: &mut Vec<Value>,
+    object: Value,
+    arguments: &[Value],
+    locals: u32,
+) -> Result<(), AllocError>
+    ensures ok { OnOk result (slots.new.items ≡ slots.old.items ++ ((object ∷ arguments.now) ++ replicate (locals - length (object ∷ arguments.now)) (value.Int (pos 0)))) }
+    ensures err { OnErr result (take (length slots.old.items) slots.new.items ≡ slots.old.items) }
+{
+    slots.push(object)?;
+    slots.extend_from_slice(arguments)?;
+    let given = arguments.len() + 1;
+    pad(
+        slots,
+        (locals as usize).saturating_sub(given),
+        Value::Int(0),
+    )?;
+    Ok(())
+}
+
+/// Appends the slots of a call: the object, the arguments, and zeros. On `Err` the slots are as they were.
+#[inline]
+pub(crate) fn fill(
+    slots: &mut Vec<Value>,
+    object: Value,
+    arguments: &[Value],
+    locals: u32,
+) -> Result<(), AllocError>
+    ensures ok { OnOk result (slots.new.items ≡ slots.old.items ++ ((object ∷ arguments.now) ++ replicate (locals - length (object ∷ arguments.now)) (value.Int (pos 0)))) }
+    ensures err { OnErr result (slots.new.items ≡ slots.old.items) }
+{
+    let base = slots.len();
+    match append(slots, object, arguments, locals) {
+        Ok(()) => Ok(()),
+        Err(error) => {
+            slots.truncate(base);
+            Err(error)
+        }
+    }
+}
+
+/// The objects of the store with these numbers.
+pub(crate) fn old_values(alloc: Global, ids: &[u32]) -> Result<Vec<Value>, AllocError>
+    ensures { IfOk result (λ v. v.items ≡ map value.Old ids.now) }
+{
+    ids.iter().map(|id| Value::Old(*id)).collect(alloc)
+}
+
+/// The tag instances of the store with these numbers.
+pub(crate) fn old_tags(alloc: Global, ids: &[u32]) -> Result<Vec<TagRef>, AllocError>
+    ensures { IfOk result (λ v. v.items ≡ map tag.Old ids.now) }
+{
+    ids.iter().map(|id| TagRef::Old(*id)).collect(alloc)
+}

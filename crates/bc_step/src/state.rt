@@ -1,0 +1,82 @@
+// The state of the machine: calls, slots and a stack of values.
+
+ghost use Rattle.std.specs.Prelude.{◌≡◌, [], List, slice_get, Some, IfOk};
+ghost use Rattle.bc_data.specs.declared.run.Body.{Body};
+ghost use Rattle.bc_mean.specs.Execute.{most_turns};
+ghost use Rattle.bc_code.specs.declared.code.Unit.{Unit as CodeUnit};
+ghost use Rattle.bc_code.specs.Instructions.{On};
+ghost use Rattle.bc_code.specs.Instructions as rules;
+ghost use Rattle.bc_step.specs.Area.{AreaParts, IsFresh};
+ghost use Rattle.bc_step.specs.State.{state_with};
+
+use crate::slots::{old_tags, old_values, pad};
+use bc_code::code::Code;
+use bc_data::run::{Fault, Invocation, TagRef, Value};
+use std::alloc::{AllocError, Global};
+
+/// A call that is not over: its unit, its next instruction, and where its slots begin.
+#[derive(Clone, Copy, Debug, PartialEq, Eq)]
+pub struct Call {
+    pub unit: u32,
+    pub next: usize,
+    pub base: usize,
+}
+
+/// The state of a run. The last of the callers made the current call, and the last of the stack is its top. The slots of a call
+/// stand behind those of its caller. The tag variables are the task's. `turns` counts those that are left.
+#[derive(Debug, Drop)]
+pub struct State {
+    pub current: Call,
+    pub callers: Vec<Call>,
+    pub slots: Vec<Value>,
+    pub stack: Vec<Value>,
+    pub tags: Vec<TagRef>,
+    pub turns: u32,
+}
+
+/// What an instruction did: the run goes on, needs an object, has exited, or has met a fault.
+#[derive(Clone, Copy, Debug, PartialEq, Eq)]
+pub enum Did {
+    On,
+    Need(u32),
+    Exit,
+    Fault(Fault),
+}
+
+/// An invocation has so many turns.
+#[tactic(auto, unfolding(bc_mean::specs::Execute::most_turns))]
+fn most_turns() -> u32
+    ensures { result ≡ most_turns }
+{
+    1_000_000
+}
+
+impl State {
+    /// The state before the first instruction of an invocation: its parameters are the first slots and tag variables of its task.
+    pub fn start(alloc: Global, code: &Code, v: Invocation) -> Result<State, AllocError>
+        requires { (unit : CodeUnit) × (slice_get code.now.units v.task ≡ Some unit) }
+        ensures { IfOk result (λ s. (a : AreaParts) (bodies : List Body) → IsFresh v bodies a → rules.start code.now v ≡ On (state_with s a [] v.objects)) }
+    {
+        let Some(unit) = code.units.get(v.task as usize) else {
+            unreachable!()
+        };
+        let mut slots = old_values(alloc, v.objects.as_slice())?;
+        let missing = (unit.locals as usize).saturating_sub(slots.len());
+        pad(&mut slots, missing, Value::Int(0))?;
+        let mut tags = old_tags(alloc, v.tags.as_slice())?;
+        let missing = (unit.tags as usize).saturating_sub(tags.len());
+        pad(&mut tags, missing, TagRef::New(0))?;
+        Ok(State {
+            current: Call {
+                unit: v.task,
+                next: 0,
+                base: 0,
+            },
+            callers: Vec::new(alloc),
+            slots,
+            stack: Vec::new(alloc),
+            tags,
+            turns: most_turns(),
+        })
+    }
+}
