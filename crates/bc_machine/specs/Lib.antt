@@ -1,0 +1,4 @@
+pub mod Course
+pub mod Parts
+pub mod Running
+pub mod Whole
