@@ -2,13 +2,19 @@
 #![tactic(auto)]
 
 #[cfg(test)]
+mod compared;
+#[cfg(test)]
 mod example_tests;
 #[cfg(test)]
 mod fault_tests;
 #[cfg(test)]
+mod language_tests;
+#[cfg(test)]
 mod limit_tests;
 #[cfg(test)]
 mod object_tests;
+#[cfg(test)]
+mod place_tests;
 #[cfg(test)]
 mod rows;
 #[cfg(test)]

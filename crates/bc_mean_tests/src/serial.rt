@@ -1,16 +1,22 @@
-// The serial run of a program, one call of the meaning after the other. The store fits the program all along.
+// The serial run of a program, one call of the meaning after the other. The store fits the program all along. Each invocation
+// is run by its code too.
 
 ghost use Rattle.std.specs.Prelude.{◌≡◌, ◌≤◌, length, IfOk};
+ghost use Rattle.bc_data.specs.ProgramView.{view_program};
 ghost use Rattle.bc_mean.specs.Changes.{apply_changes};
 ghost use Rattle.bc_mean.specs.Commit.{HasRoom};
 ghost use Rattle.bc_mean.specs.Enabled.{IsEnabled};
 ghost use Rattle.bc_mean.specs.Outcome.{outcome};
 ghost use Rattle.bc_mean.specs.Store.{Fits};
+ghost use Rattle.bc_code.specs.Translation.{Translates};
 
+use crate::compared::compare;
+use bc_code::code::Code;
 use bc_data::list::List;
 use bc_data::program::Program;
 use bc_data::run::{Changes, Fault, Invocation, Outcome, Ran};
 use bc_fitness::{commits_have_room, keeps_fit};
+use bc_gen_stmt::generate;
 use bc_mean::plain::Plain;
 use bc_mean::{all_enabled, apply, is_enabled, start};
 use bc_replay::start_fits;
@@ -186,15 +192,17 @@ fn ended(
     }
 }
 
-// A run behind its first pending invocation.
+// A run behind its first pending invocation, whose code does the same.
 fn advance(
     rt: &impl Abort,
     alloc: Global,
     program: &Program,
+    code: &Code,
     course: Course,
     limit: usize,
 ) -> Result<Step, Fail>
-    requires { Fits program.now course.store }
+    requires translated { Translates (view_program program.now) code.now }
+    requires fits { Fits program.now course.store }
     ensures { IfOk result (λ step. Fits program.now step.course.store) }
 {
     let mut course = course;
@@ -208,6 +216,7 @@ fn advance(
     let v = &first;
     assert!(rt; is_enabled(program, &course.store, *v));
     let out = run_tree(alloc, program, &course.store, *v)?;
+    compare(rt, alloc, program, code, &course.store, *v, &out)?;
     ended(alloc, program, course, *v, out, limit)
 }
 
@@ -240,9 +249,10 @@ pub fn serial(
     requires { length input.now ≤ 65536 }
     ensures { IfOk result (λ course. Fits program.now course.store) }
 {
+    let code = generate(alloc, program)?;
     let mut course = begun(alloc, program, input)?;
     for _ in 0..1000 {
-        let step = advance(rt, alloc, program, course, limit)?;
+        let step = advance(rt, alloc, program, &code, course, limit)?;
         if !step.goes_on {
             return Ok(step.course);
         }

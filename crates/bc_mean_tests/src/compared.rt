@@ -1,0 +1,91 @@
+// The run of an invocation by its code, beside what it comes to by its program.
+
+ghost use Rattle.bc_data.specs.ProgramView.{view_program};
+ghost use Rattle.bc_mean.specs.Enabled.{IsEnabled};
+ghost use Rattle.bc_mean.specs.Store.{Fits};
+ghost use Rattle.bc_code.specs.Translation.{Translates};
+
+use bc_code::code::Code;
+use bc_data::program::Program;
+use bc_data::run::{Body, Changes, FaultKind, Invocation, Outcome, Ran, Written};
+use bc_machine::machine::Ended;
+use bc_machine::plain::{Run, run_over};
+use bc_mean::plain::Plain;
+use std::alloc::Global;
+use std::process::Abort;
+use std::test::Fail;
+
+// Whether a fault is one of room, for which the run of the code doesn't look.
+fn is_of_room(kind: FaultKind) -> bool {
+    matches!(
+        kind,
+        FaultKind::Objects | FaultKind::Cells | FaultKind::Tags | FaultKind::Output
+    )
+}
+
+fn same_body(rt: &impl Abort, body: &Body, other: &Body) {
+    assert_eq!(rt; body.kind, other.kind);
+    assert_eq!(rt; body.cells.as_slice(), other.cells.as_slice());
+    assert_eq!(rt; body.flags, other.flags);
+    assert_eq!(rt; body.tags.as_slice(), other.tags.as_slice());
+}
+
+fn same_bodies(rt: &impl Abort, bodies: &[Body], others: &[Body]) {
+    assert_eq!(rt; bodies.len(), others.len());
+    for (body, other) in bodies.iter().zip(others) {
+        same_body(rt, body, other);
+    }
+}
+
+fn same_written(rt: &impl Abort, written: &[Written], others: &[Written]) {
+    assert_eq!(rt; written.len(), others.len());
+    for (one, other) in written.iter().zip(others) {
+        assert_eq!(rt; one.id, other.id);
+        same_body(rt, &one.body, &other.body);
+    }
+}
+
+fn same_changes(rt: &impl Abort, changes: &Changes, others: &Changes) {
+    same_written(rt, changes.bodies.as_slice(), others.bodies.as_slice());
+    same_bodies(rt, changes.made.as_slice(), others.made.as_slice());
+    assert_eq!(rt; changes.tags.as_slice(), others.tags.as_slice());
+    assert_eq!(rt; changes.text.as_slice(), others.text.as_slice());
+}
+
+// Whether a run ended as an outcome says.
+fn same_end(rt: &impl Abort, alloc: Global, run: &Run, ran: &Ran) -> Result<(), Fail> {
+    match ran {
+        Ran::Commit(changes) => {
+            assert_eq!(rt; run.ended, Ended::Commit);
+            same_changes(rt, &run.area.changes(alloc)?, changes);
+        }
+        Ran::Faulted(fault) if is_of_room(fault.kind) => {
+            assert_eq!(rt; run.ended, Ended::Commit);
+        }
+        Ran::Faulted(fault) => {
+            assert_eq!(rt; run.ended, Ended::Faulted(*fault));
+        }
+    }
+    Ok(())
+}
+
+/// Whether the code's run of an invocation touches the objects of the outcome, in the same order, and ends as it says: with the
+/// same fault or the same changes. Where there is no room for these, it only exits.
+pub fn compare(
+    rt: &impl Abort,
+    alloc: Global,
+    program: &Program,
+    code: &Code,
+    store: &Plain,
+    v: Invocation,
+    out: &Outcome,
+) -> Result<(), Fail>
+    requires translated { Translates (view_program program.now) code.now }
+    requires fits { Fits program.now store.now }
+    requires enabled { IsEnabled program.now store.now v }
+{
+    program.is_well_typed();
+    let run = run_over(alloc, code, store, v)?;
+    assert_eq!(rt; run.area.touched(), out.touched.as_slice());
+    same_end(rt, alloc, &run, &out.ran)
+}
