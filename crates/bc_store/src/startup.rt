@@ -1,0 +1,52 @@
+// The bodies at the start of a run.
+
+ghost use Rattle.std.specs.Prelude.{◌≡◌, pos, [], ◌∷◌, map, IfOk};
+ghost use Rattle.bc_mean.specs.Store.{startup_object, input_array};
+
+use bc_data::list::List;
+use bc_data::run::{Body, Kind, Value};
+use std::alloc::{AllocError, Global};
+
+/// Object 0: the startup object, which names object 1.
+fn startup_object(alloc: Global) -> Result<Body, AllocError>
+    ensures { IfOk result (λ body. body ≡ startup_object) }
+{
+    Ok(Body {
+        kind: Kind::Class(0),
+        cells: List::from_slice(alloc, &[Value::Old(1)])?,
+        flags: 1,
+        tags: List::new(alloc),
+    })
+}
+
+/// The bytes as numbers.
+fn numbers(alloc: Global, input: &[u8]) -> Result<Vec<Value>, AllocError>
+    ensures { IfOk result (λ cells. cells.items ≡ map (λ b. Value.Int (pos b)) input.now) }
+{
+    input
+        .iter()
+        .map(|byte| Value::Int(i32::from(*byte)))
+        .collect(alloc)
+}
+
+/// Object 1: the array of the input's bytes.
+fn input_array(alloc: Global, input: &[u8]) -> Result<Body, AllocError>
+    ensures { IfOk result (λ body. body ≡ input_array input.now) }
+{
+    Ok(Body {
+        kind: Kind::Ints,
+        cells: List::from_vec(numbers(alloc, input)?),
+        flags: 0,
+        tags: List::new(alloc),
+    })
+}
+
+/// The bodies of the two objects that there are at the start.
+pub fn start_bodies(alloc: Global, input: &[u8]) -> Result<Vec<Body>, AllocError>
+    ensures { IfOk result (λ bodies. bodies.items ≡ startup_object ∷ input_array input.now ∷ []) }
+{
+    let mut bodies = Vec::new(alloc);
+    bodies.push(startup_object(alloc)?)?;
+    bodies.push(input_array(alloc, input)?)?;
+    Ok(bodies)
+}
