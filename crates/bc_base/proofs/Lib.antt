@@ -1,3 +1,4 @@
 pub mod Taken
 pub mod Given
 pub mod Faults
+pub mod Read

@@ -4,6 +4,8 @@ use Rattle.std.specs.List.{list_any}
 use Rattle.bc_base.specs.declared.calls.Calls.{Calls}
 use Rattle.bc_base.specs.declared.shelf.ShelfFault.{ShelfFault}
 use Rattle.bc_base.specs.declared.shelf.ShelfFault.TheVariants.{TooLong, Failed, Memory}
+use Rattle.bc_base.specs.declared.source.ReadFault.{ReadFault}
+use Rattle.bc_base.specs.declared.source.ReadFault.TheVariants.{TooLong as ReadTooLong, Failed as ReadFailed, Memory as ReadMemory}
 
 -- one more, or the last value of the type
 abbrev pub next_count : ℕ → ℕ
@@ -34,3 +36,9 @@ is_fault (Ok content) = false
 is_fault (Err TooLong) = false
 is_fault (Err Failed) = true
 is_fault (Err Memory) = false
+
+-- the shelf's fault where a file was not read to its end
+abbrev pub shelf_fault : ReadFault → ShelfFault
+shelf_fault ReadTooLong = TooLong
+shelf_fault ReadFailed = Failed
+shelf_fault ReadMemory = Memory

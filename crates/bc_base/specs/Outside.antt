@@ -30,3 +30,16 @@ Consumes old new text = old ≡ led_by text new
 abbrev pub IsAtEnd : Option (List ℕ) → Type 0
 IsAtEnd None = ⊤
 IsAtEnd (Some left) = left ≡ []
+
+-- a source gave this text, and it was all that was left; what tells nothing goes on to tell nothing
+abbrev pub GivesAll : Option (List ℕ) → Option (List ℕ) → List ℕ → Type 0
+GivesAll None new text = new ≡ None
+GivesAll (Some left) new text = (text ≡ left) × (new ≡ Some [])
+
+-- a source gave a text of so many bytes and lost nothing else
+abbrev pub Loses : Option (List ℕ) → Option (List ℕ) → ℕ → Type 0
+Loses old new n = (text : List ℕ) × (length text ≡ n) × Consumes old new text
+
+-- a source gave a text of at most so many bytes and lost nothing else
+abbrev pub LosesUpTo : Option (List ℕ) → Option (List ℕ) → ℕ → Type 0
+LosesUpTo old new most = (text : List ℕ) × (length text ≤ most) × Consumes old new text

@@ -7,5 +7,3 @@ pub mod file_shelf;
 pub mod shelf;
 pub mod sink;
 pub mod source;
-#[cfg(test)]
-mod tests;

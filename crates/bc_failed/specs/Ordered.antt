@@ -1,5 +1,5 @@
 -- Failures without their touched objects, by invocation.
-use Rattle.std.specs.Prelude.{if◌then◌else◌, List, [], ◌∷◌}
+use Rattle.std.specs.Prelude.{if◌then◌else◌, List, [], ◌∷◌, map}
 use Rattle.bc_mean.specs.Orders.{precedes}
 use Rattle.bc_mean.specs.Serial.{Failed}
 use Rattle.bc_failed.specs.declared.entry.Failure.{Failure}
@@ -7,15 +7,16 @@ use Rattle.bc_failed.specs.declared.entry.Failure.{Failure}
 abbrev pub failure_of : Failed → Failure
 failure_of f = record { v = f.v; fault = f.fault }
 
--- one more, before the first that it precedes
+-- one more, before the first that does not precede it
 abbrev pub put : Failure → List Failure → List Failure
 put f [] = f ∷ []
-put f (g ∷ gs) = if precedes f.v g.v then f ∷ g ∷ gs else g ∷ put f gs
+put f (g ∷ gs) = if precedes g.v f.v then g ∷ put f gs else f ∷ g ∷ gs
 
-abbrev pub ordered_onto : List Failure → List Failed → List Failure
-ordered_onto gs [] = gs
-ordered_onto gs (f ∷ fs) = ordered_onto (put (failure_of f) gs) fs
+-- by invocation; those of one invocation keep their order
+abbrev pub in_order : List Failure → List Failure
+in_order [] = []
+in_order (f ∷ fs) = put f (in_order fs)
 
 -- the failures ascending by invocation
 abbrev pub ordered : List Failed → List Failure
-ordered fs = ordered_onto [] fs
+ordered fs = in_order (map failure_of fs)

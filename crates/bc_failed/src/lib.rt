@@ -3,6 +3,7 @@
 
 pub mod entry;
 pub mod failures;
+pub mod laws;
 mod order;
 #[cfg(test)]
 mod tests;

@@ -1,10 +1,9 @@
 // Failures in the order of invocations.
 
-ghost use Rattle.std.specs.Prelude.{◌≡◌, ◌+◌, ◌≤◌, [], filter, position, map, count_by, vec_len, vec_capacity, OnOk, IfOk, length, if◌then◌else◌};
-ghost use Rattle.std.specs.List.{position_or_len};
-ghost use Rattle.bc_mean.specs.Orders.{invocation_cmp, precedes};
+ghost use Rattle.std.specs.Prelude.{◌≡◌, ◌+◌, ◌≤◌, filter, map, count_by, vec_len, vec_capacity, OnOk, IfOk};
+ghost use Rattle.bc_mean.specs.Orders.{invocation_cmp};
 ghost use Rattle.bc_failed.specs.Records.{touches, leaves};
-ghost use Rattle.bc_failed.specs.Ordered.{put, ordered};
+ghost use Rattle.bc_failed.specs.Ordered.{failure_of, in_order, ordered};
 
 use crate::entry::{Failure, Record};
 use bc_data::run::Invocation;
@@ -21,59 +20,40 @@ fn compare(v: &Invocation, w: &Invocation) -> Ordering
     v.task.cmp(&w.task).then(objects.then(tags))
 }
 
-fn is_before(v: &Invocation, w: &Invocation) -> bool
-    ensures { result ≡ precedes v.now w.now }
+/// Sorts them by invocation.
+fn sort(found: &mut Vec<Failure>) -> Result<(), AllocError>
+    ensures { OnOk result (found.new.items ≡ in_order found.old.items) }
 {
-    compare(v, w).is_lt()
-}
-
-fn first_after(found: &[Failure], v: &Invocation) -> Option<usize>
-    ensures { result ≡ position (λ g. precedes v.now g.v) found.now }
-{
-    found.iter().position(|g| is_before(v, &g.v))
-}
-
-fn place_of(found: &[Failure], v: &Invocation) -> usize
-    ensures value { result ≡ position_or_len (λ g. precedes v.now g.v) found.now }
-    ensures within { result ≤ length found.now }
-{
-    match first_after(found, v) {
-        Some(place) => place,
-        None => found.len(),
-    }
-}
-
-fn put_in(found: &mut Vec<Failure>, failure: Failure) -> Result<(), AllocError>
-    ensures { OnOk result (found.new.items ≡ put failure found.old.items) }
-{
-    let place = place_of(found.as_slice(), &failure.v);
-    found.insert(place, failure)?;
+    found.sort_by(|f, g| compare(&f.v, &g.v))?;
     Ok(())
 }
 
-fn put_if(found: &mut Vec<Failure>, wanted: bool, failure: Failure) -> Result<(), AllocError>
-    ensures { OnOk result (found.new.items ≡ (if wanted then put failure found.old.items else found.old.items)) }
+fn failures_of(alloc: Global, records: &[Record]) -> Result<Vec<Failure>, AllocError>
+    ensures { IfOk result (λ found. found.items ≡ map failure_of records.now) }
 {
-    if wanted {
-        put_in(found, failure)?;
-    }
-    Ok(())
+    records.iter().map(|entry| entry.failure()).collect(alloc)
+}
+
+fn touching_of(alloc: Global, records: &[Record], id: u32) -> Result<Vec<Failure>, AllocError>
+    ensures { IfOk result (λ found. found.items ≡ map failure_of (filter (touches id) records.now)) }
+{
+    records
+        .iter()
+        .filter(|entry| entry.touches(id))
+        .map(|entry| entry.failure())
+        .collect(alloc)
 }
 
 /// All of them, ascending.
-#[tactic(auto, using(crate::proofs::Ordered::ordered_more))]
 pub fn all_ordered(alloc: Global, records: &[Record]) -> Result<Vec<Failure>, AllocError>
     ensures { IfOk result (λ found. found.items ≡ ordered records.now) }
 {
-    let mut found = Vec::new(alloc);
-    for entry in records {
-        put_in(&mut found, entry.failure())?;
-    }
+    let mut found = failures_of(alloc, records)?;
+    sort(&mut found)?;
     Ok(found)
 }
 
 /// Those that touched the object, ascending.
-#[tactic(auto, using(crate::proofs::Ordered::touching_more))]
 pub fn touching_ordered(
     alloc: Global,
     records: &[Record],
@@ -81,10 +61,8 @@ pub fn touching_ordered(
 ) -> Result<Vec<Failure>, AllocError>
     ensures { IfOk result (λ found. found.items ≡ ordered (filter (touches id) records.now)) }
 {
-    let mut found = Vec::new(alloc);
-    for entry in records {
-        put_if(&mut found, entry.touches(id), entry.failure())?;
-    }
+    let mut found = touching_of(alloc, records, id)?;
+    sort(&mut found)?;
     Ok(found)
 }
 

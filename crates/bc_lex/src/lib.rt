@@ -9,6 +9,3 @@ mod scan;
 mod spelling;
 
 pub use lexer::{LexFault, tokens};
-
-#[cfg(test)]
-mod tests;

@@ -8,8 +8,6 @@ pub mod laws;
 pub mod listing;
 pub mod plain;
 pub mod startup;
-#[cfg(test)]
-mod store_tests;
 
 pub use commit::apply;
 pub use enabledness::is_enabled;

@@ -98,7 +98,7 @@ fn add_instances(
 }
 
 /// Appends the enabled invocations of a task whose objects begin with these and have so many more.
-pub(crate) fn add_objects(
+fn add_objects(
     task: &Task,
     store: &Plain,
     found: &mut List<Invocation>,

@@ -44,7 +44,7 @@ fn input_array(alloc: Global, input: &[u8]) -> Result<Body, AllocError>
 }
 
 /// The store at the start of a run on this input.
-pub(crate) fn start_store(alloc: Global, input: &[u8]) -> Result<Plain, AllocError>
+fn start_store(alloc: Global, input: &[u8]) -> Result<Plain, AllocError>
     ensures { IfOk result (λ store. store ≡ start_store input.now) }
 {
     let mut bodies = List::new(alloc);

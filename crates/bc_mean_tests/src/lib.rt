@@ -20,4 +20,8 @@ mod rows;
 #[cfg(test)]
 mod serial;
 #[cfg(test)]
+mod sets_tests;
+#[cfg(test)]
+mod store_tests;
+#[cfg(test)]
 mod tag_tests;

@@ -22,9 +22,9 @@ pub struct Row<'a> {
     pub output: &'a str,
 }
 
-// The program of a text.
+/// The program of a text.
 #[tactic(auto, using(bc_parse::proofs::Lexed::ended, bc_accepted::proofs::Accepted::grammatical))]
-fn accepted(alloc: Global, text: &str) -> Result<Program, Fail>
+pub fn accepted(alloc: Global, text: &str) -> Result<Program, Fail>
     requires { length text.now ≤ 1048576 }
 {
     let Ok(found) = tokens(alloc, text.as_bytes()) else {
@@ -49,8 +49,8 @@ fn push_numbers(alloc: Global, text: &mut String, ids: &[u32]) -> Result<(), Fai
     Ok(())
 }
 
-// Appends the name of an invocation's task, its objects, and behind a bar its tag instances, if it has any.
-fn push_invocation(
+/// Appends the name of an invocation's task, its objects, and behind a bar its tag instances, if it has any.
+pub fn push_invocation(
     alloc: Global,
     text: &mut String,
     program: &Program,

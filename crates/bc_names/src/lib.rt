@@ -5,8 +5,6 @@ mod fault;
 mod members;
 mod names;
 mod space;
-#[cfg(test)]
-mod tests;
 
 pub use fault::{TypeFault, TypeKind};
 pub use names::{Names, number};

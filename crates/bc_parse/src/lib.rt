@@ -19,21 +19,6 @@ use item::program;
 use std::alloc::Global;
 use thiserror::Error;
 
-#[cfg(test)]
-mod answers;
-#[cfg(test)]
-mod broken_off;
-#[cfg(test)]
-mod levels;
-#[cfg(test)]
-mod refused_bytes;
-#[cfg(test)]
-mod refused_items;
-#[cfg(test)]
-mod refused_statements;
-#[cfg(test)]
-mod tests;
-
 /// Why tokens have no tree: the place of the first token behind which no tree within 64 levels continues. It is
 /// `TooDeep` where a tree without the limit continues behind that token.
 #[derive(Debug, Drop, Error)]

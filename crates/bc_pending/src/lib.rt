@@ -2,6 +2,7 @@
 #![tactic(auto)]
 
 pub mod keep;
+pub mod laws;
 pub mod pending;
 mod search;
 #[cfg(test)]

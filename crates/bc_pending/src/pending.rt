@@ -7,7 +7,9 @@ ghost use Rattle.bc_mean.specs.Serial.{listed, same_invocation};
 ghost use Rattle.bc_pending.specs.Lists.{Moves, HasObjects, held_by, is_held, is_allowed, names, stays};
 
 use crate::keep::Keep;
-use crate::search::{extend_in, held_count, keep_in, place_of_allowed, place_of_same, push_in};
+use crate::search::{
+    any_same, extend_in, held_count, keep_in, place_of_allowed, place_of_same, push_in,
+};
 use bc_data::list::List;
 use bc_data::run::Invocation;
 use bc_data::task_set::TaskSet;
@@ -123,6 +125,20 @@ impl Pending {
         ensures { result ≡ held_by self.now.held worker }
     {
         self.slots[worker as usize]
+    }
+
+    /// Whether this one is listed.
+    pub fn has(&self, v: Invocation) -> bool
+        ensures { result ≡ listed self.now.listed v }
+    {
+        any_same(self.items.as_slice(), &v)
+    }
+
+    /// How many are listed.
+    pub fn len(&self) -> usize
+        ensures { result ≡ length self.now.listed }
+    {
+        self.items.len()
     }
 
     /// Whether none is listed.

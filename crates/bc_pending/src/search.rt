@@ -1,7 +1,7 @@
 // Searches in a vector of invocations, and filtering it in place.
 
 ghost use Rattle.std.specs.Prelude.{◌≡◌, ℕ, Bool, ◌+◌, ◌≤◌, ◌++◌, ◌∷◌, [], length, filter, position, count_by, is_some, vec_len, vec_capacity, if◌then◌else◌};
-ghost use Rattle.bc_mean.specs.Serial.{same_invocation};
+ghost use Rattle.bc_mean.specs.Serial.{listed, same_invocation};
 ghost use Rattle.bc_pending.specs.Lists.{is_allowed, names, stays};
 
 use crate::keep::Keep;
@@ -39,6 +39,13 @@ pub fn place_of_same(items: &[Invocation], v: &Invocation) -> Option<usize>
     ensures { result ≡ position (same_invocation v.now) items.now }
 {
     items.iter().position(|w| is_same(v, w))
+}
+
+/// Whether one is the same.
+pub fn any_same(items: &[Invocation], v: &Invocation) -> bool
+    ensures { result ≡ listed items.now v.now }
+{
+    items.iter().any(|w| is_same(v, w))
 }
 
 /// How many of the slots hold an invocation.

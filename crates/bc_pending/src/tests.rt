@@ -75,7 +75,11 @@ fn takes_the_first_of_a_task(rt: HostRuntime) -> Result<(), Fail> {
 #[test]
 fn puts_back_to_the_end(rt: HostRuntime) -> Result<(), Fail> {
     let mut pending = filled(rt.alloc())?;
+    assert!(rt; pending.has(one(0, 5)));
+    assert!(rt; !pending.has(one(0, 7)));
+    assert_eq!(rt; pending.len(), 3);
     assert!(rt; pending.take_this(0, one(0, 5)));
+    assert!(rt; !pending.has(one(0, 5)));
     assert!(rt; !pending.take_this(1, one(0, 5)));
     pending.put_back(0);
     assert!(rt; pending.take_this(0, one(1, 5)));

@@ -6,8 +6,6 @@ mod laws;
 mod parts;
 mod program;
 mod statement;
-#[cfg(test)]
-mod tests;
 
 pub use laws::{literals_are_read, places_are_not_written};
 pub use program::print_tree;

@@ -1,10 +1,37 @@
 // Bodies and changes, made for the tests, and compared.
 
 use bc_data::list::{Bytes, List};
-use bc_data::run::{Body, Changes, Kind, TagRef, Value};
+use bc_data::run::{Body, Changes, Kind, TagRef, Value, Written};
 use std::alloc::{AllocError, Global};
 use std::process::Abort;
 use std::test::Fail;
+
+/// A body of these parts.
+pub fn body(
+    alloc: Global,
+    kind: Kind,
+    cells: &[Value],
+    flags: u32,
+    tags: &[TagRef],
+) -> Result<Body, AllocError> {
+    Ok(Body {
+        kind,
+        cells: List::from_slice(alloc, cells)?,
+        flags,
+        tags: List::from_slice(alloc, tags)?,
+    })
+}
+
+/// An array of numbers.
+pub fn numbers(alloc: Global, cells: &[Value]) -> Result<Body, AllocError> {
+    body(alloc, Kind::Ints, cells, 0, &[])
+}
+
+/// Writes a body among changes.
+pub fn write(changes: &mut Changes, id: u32, body: Body) -> Result<(), Fail> {
+    changes.bodies.push(Written { id, body })?;
+    Ok(())
+}
 
 /// An array of this many nulls.
 pub fn nulls(alloc: Global, cells: usize) -> Result<Body, AllocError> {
@@ -66,4 +93,30 @@ pub fn has(rt: &impl Abort, body: &Body, kind: Kind, cells: &[Value], flags: u32
     assert_eq!(rt; body.cells.as_slice(), cells);
     assert_eq!(rt; body.flags, flags);
     assert_eq!(rt; body.tags.as_slice(), tags);
+}
+
+/// Asserts that two bodies have the same parts.
+pub fn same_body(rt: &impl Abort, body: &Body, want: &Body) {
+    has(
+        rt,
+        body,
+        want.kind,
+        want.cells.as_slice(),
+        want.flags,
+        want.tags.as_slice(),
+    );
+}
+
+/// Asserts that the body written at this place is this one, of the object of the same number.
+pub fn has_written(rt: &impl Abort, changes: &Changes, at: usize, want: &Body) {
+    assert!(rt; at < changes.bodies.len());
+    let written = &changes.bodies[at];
+    assert_eq!(rt; written.id as usize, at);
+    same_body(rt, &written.body, want);
+}
+
+/// Asserts that the new body at this place is this one.
+pub fn has_made(rt: &impl Abort, changes: &Changes, at: usize, want: &Body) {
+    assert!(rt; at < changes.made.len());
+    same_body(rt, &changes.made[at], want);
 }

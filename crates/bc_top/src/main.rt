@@ -1,30 +1,14 @@
-//! The program: commands, the top call and `main`.
+//! The program: its words, and `main`.
 #![tactic(auto)]
 
-mod answer;
-#[cfg(test)]
-mod check_tests;
-#[cfg(test)]
-mod code_tests;
-mod commands;
-mod make;
-#[cfg(test)]
-mod manual_tests;
-mod reader;
-#[cfg(test)]
-mod show_tests;
-#[cfg(test)]
-mod tests;
-mod texts;
-mod top;
 mod words;
 
-use answer::OUT_OF_MEMORY;
 use bc_base::file_shelf::FileShelf;
 use bc_base::sink::{ErrorSink, OutputSink};
 use bc_base::source::InputSource;
+use bc_commands::answer::OUT_OF_MEMORY;
+use bc_commands::top::plain;
 use std::process::ExitCode;
-use top::plain;
 use words::program_words;
 
 fn main(rt: HostRuntime) -> ExitCode {

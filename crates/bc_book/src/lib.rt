@@ -1,0 +1,5 @@
+//! The book: what workers share of a run, and each event of it.
+#![tactic(auto)]
+
+pub mod book;
+mod parts;

@@ -1,0 +1,6 @@
+//! What each command makes of its file, and the top call.
+#![tactic(auto)]
+
+pub mod answer;
+mod make;
+pub mod top;

@@ -1,0 +1,17 @@
+pub mod Running
+pub mod Members
+pub mod Exact
+pub mod Moves
+pub mod Appended
+pub mod Start
+pub mod Named
+pub mod Sound
+pub mod Unmoved
+pub mod Shapes
+pub mod Turns
+pub mod Counted
+pub mod Written
+pub mod CommitFound
+pub mod Parts
+pub mod CoreSteps
+pub mod Kept

@@ -1,0 +1,15 @@
+pub mod Book
+pub mod Steps
+pub mod Events
+pub mod Exact
+pub mod Moves
+pub mod Laws
+pub mod Named
+pub mod Sound
+pub mod SoundLaws
+pub mod Turns
+pub mod Core
+pub mod Lawful
+pub mod After
+pub mod SoundCore
+pub mod Untouched

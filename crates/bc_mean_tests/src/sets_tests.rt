@@ -1,0 +1,404 @@
+// The parameter sets behind the first commit of a text: the enabled invocations that they find for each object, against
+// lists by hand and against the list of all that are enabled.
+
+ghost use Rattle.std.specs.Prelude.{◌≡◌, ◌<◌, [], ◌∷◌, length, IfOk};
+ghost use Rattle.bc_mean.specs.Changes.{apply_changes};
+ghost use Rattle.bc_mean.specs.Enabled.{IsEnabled};
+ghost use Rattle.bc_mean.specs.Outcome.{outcome};
+ghost use Rattle.bc_mean.specs.Store.{Fits};
+ghost use Rattle.bc_store.specs.Store.{CanPublish};
+
+use crate::rows::{accepted, push_invocation};
+use bc_commits::commits_can_be_published;
+use bc_data::list::List;
+use bc_data::program::Program;
+use bc_data::run::{Body, Changes, Invocation, Outcome, Ran, Written};
+use bc_fitness::keeps_fit;
+use bc_mean::plain::Plain;
+use bc_mean::{all_enabled, apply, is_enabled, start};
+use bc_params::params::Params;
+use bc_replay::start_fits;
+use bc_steps::Steps;
+use bc_store::store::Store;
+use bc_tree::run_tree;
+use std::alloc::Global;
+use std::marker::Brand;
+use std::process::Abort;
+use std::sync::ledger::{Blank, Ledger};
+use std::test::Fail;
+
+// A store, plain and kept.
+#[derive(Drop)]
+struct Stores {
+    plain: Plain,
+    kept: Store,
+}
+
+// The stores at the start.
+fn started(alloc: Global, program: &Program) -> Result<Stores, Fail>
+    ensures fits { IfOk result (λ s. Fits program.now s.plain) }
+    ensures same { IfOk result (λ s. s.kept.plain ≡ s.plain) }
+{
+    program.is_well_typed();
+    start_fits();
+    Ok(Stores {
+        plain: start(alloc, program, &[])?,
+        kept: Store::make(alloc, &[])?,
+    })
+}
+
+fn enabled(alloc: Global, program: &Program, store: &Plain) -> Result<List<Invocation>, Fail>
+    requires { Fits program.now store.now }
+{
+    Ok(all_enabled(alloc, program, store)?)
+}
+
+// Publishes changes in the one store, and applies them to the other.
+fn changed(alloc: Global, stores: Stores, changes: Changes) -> Result<Stores, Fail>
+    requires can { CanPublish stores.plain changes }
+    requires same { stores.kept.plain ≡ stores.plain }
+    ensures applied { IfOk result (λ s. s.plain ≡ apply_changes stores.plain changes) }
+    ensures same { IfOk result (λ s. s.kept.plain ≡ s.plain) }
+{
+    let Stores {
+        mut plain,
+        mut kept,
+    } = stores;
+    let copy = changes.copy(alloc)?;
+    kept.reserve_for(&copy)?;
+    kept.publish(copy);
+    apply(alloc, &mut plain, changes)?;
+    Ok(Stores { plain, kept })
+}
+
+// The stores behind an invocation, which commits.
+fn committed(
+    alloc: Global,
+    program: &Program,
+    stores: Stores,
+    v: Invocation,
+    out: Outcome,
+) -> Result<Stores, Fail>
+    requires fits { Fits program.now stores.plain }
+    requires same { stores.kept.plain ≡ stores.plain }
+    requires enabled { IsEnabled program.now stores.plain v }
+    requires out { out ≡ outcome program.now stores.plain v }
+    ensures fits { IfOk result (λ s. Fits program.now s.plain) }
+    ensures same { IfOk result (λ s. s.kept.plain ≡ s.plain) }
+{
+    let _ = v;
+    program.is_well_typed();
+    keeps_fit();
+    commits_can_be_published();
+    let Outcome { ran, touched: _ } = out;
+    match ran {
+        Ran::Faulted(_) => Err("the first invocation commits".into()),
+        Ran::Commit(changes) => changed(alloc, stores, changes),
+    }
+}
+
+// The stores behind the first invocation.
+fn behind_the_first(rt: &impl Abort, alloc: Global, program: &Program) -> Result<Stores, Fail>
+    ensures fits { IfOk result (λ s. Fits program.now s.plain) }
+    ensures same { IfOk result (λ s. s.kept.plain ≡ s.plain) }
+{
+    let stores = started(alloc, program)?;
+    let Some(first) = enabled(alloc, program, &stores.plain)?.pop() else {
+        return Err("something is enabled at the start".into());
+    };
+    let v = &first;
+    assert!(rt; is_enabled(program, &stores.plain, *v));
+    let out = run_tree(alloc, program, &stores.plain, *v)?;
+    committed(alloc, program, stores, *v, out)
+}
+
+// A line for each object that an enabled invocation names, with the first so many that name it.
+fn told(
+    alloc: Global,
+    program: &Program,
+    params: &Params,
+    objects: u32,
+    most: usize,
+) -> Result<String, Fail> {
+    let mut text = String::new(alloc);
+    for id in 0..objects {
+        let found = params.tuples_with(alloc, id, most)?;
+        if !found.is_empty() {
+            push_line(alloc, &mut text, program, id, found.as_slice())?;
+        }
+    }
+    Ok(text)
+}
+
+fn push_line(
+    alloc: Global,
+    text: &mut String,
+    program: &Program,
+    id: u32,
+    found: &[Invocation],
+) -> Result<(), Fail> {
+    text.push_str(format!(in alloc; "{id}:")?.as_str())?;
+    for v in found {
+        text.push_str(" ")?;
+        push_invocation(alloc, text, program, *v)?;
+    }
+    text.push_str("\n")?;
+    Ok(())
+}
+
+// The sets behind the first invocation of a text find these.
+fn finds(rt: &impl Abort, alloc: Global, text: &str, most: usize, lines: &str) -> Result<(), Fail> {
+    assert!(rt; text.len() <= 1_048_576);
+    let program = accepted(alloc, text)?;
+    let stores = behind_the_first(rt, alloc, &program)?;
+    let params = Params::make(alloc, &program, &stores.kept)?;
+    let found = told(alloc, &program, &params, stores.kept.objects(), most)?;
+    assert_eq!(rt; found.as_str(), lines);
+    Ok(())
+}
+
+const PAIRS: &str = r#"class N { flag f; int v; N(int v) { this.v = v; } }
+task startup(StartupObject s in initialstate) {
+  new N(0){f := true};
+  new N(1){f := true};
+  new N(2){f := true};
+  taskexit(s: initialstate := false);
+}
+task pair(N x in f, N y in f) { print(x.v, y.v, " "); }"#;
+
+#[test]
+fn pairs_of_different_objects(rt: HostRuntime) -> Result<(), Fail> {
+    let lines = "2: pair(2,3) pair(2,4) pair(3,2) pair(4,2)
+3: pair(2,3) pair(3,2) pair(3,4) pair(4,3)
+4: pair(2,4) pair(3,4) pair(4,2) pair(4,3)
+";
+    finds(&rt, rt.alloc(), PAIRS, 262_145, lines)
+}
+
+#[test]
+fn the_first_of_them(rt: HostRuntime) -> Result<(), Fail> {
+    let lines = "2: pair(2,3) pair(2,4) pair(3,2)
+3: pair(2,3) pair(3,2) pair(3,4)
+4: pair(2,4) pair(3,4) pair(4,2)
+";
+    finds(&rt, rt.alloc(), PAIRS, 3, lines)
+}
+
+const JOIN: &str = r#"tagtype T;
+class L { flag f; }
+class R { flag f; }
+task startup(StartupObject s in initialstate) {
+  tag a = new tag(T);
+  tag b = new tag(T);
+  new L(){f := true, add a};
+  new R(){f := true, add a};
+  new L(){f := true, add b};
+  new R(){f := true, add b};
+  taskexit(s: initialstate := false);
+}
+task join(L x in f with T t, R y in f with T t) { }"#;
+
+#[test]
+fn objects_joined_by_an_instance(rt: HostRuntime) -> Result<(), Fail> {
+    let lines = "2: join(2,3|0)
+3: join(2,3|0)
+4: join(4,5|1)
+5: join(4,5|1)
+";
+    finds(&rt, rt.alloc(), JOIN, 262_145, lines)
+}
+
+const SIXTEEN: &str = r#"tagtype T;
+class C { flag f; }
+task startup(StartupObject s in initialstate) {
+  tag a = new tag(T); tag b = new tag(T); tag c = new tag(T); tag d = new tag(T);
+  tag e = new tag(T); tag f = new tag(T); tag g = new tag(T); tag h = new tag(T);
+  tag i = new tag(T); tag j = new tag(T); tag k = new tag(T); tag l = new tag(T);
+  tag m = new tag(T); tag n = new tag(T); tag o = new tag(T); tag p = new tag(T);
+  new C(){f := true, add p, add o, add n, add m, add l, add k, add j, add i, add h, add g, add f, add e, add d, add c, add b, add a};
+  taskexit(s: initialstate := false);
+}
+task each(C c in f with T t) { }"#;
+
+#[test]
+fn each_of_sixteen_instances(rt: HostRuntime) -> Result<(), Fail> {
+    let lines =
+        "2: each(2|0) each(2|1) each(2|2) each(2|3) each(2|4) each(2|5) each(2|6) each(2|7) \
+each(2|8) each(2|9) each(2|10) each(2|11) each(2|12) each(2|13) each(2|14) each(2|15)
+";
+    finds(&rt, rt.alloc(), SIXTEEN, 262_145, lines)
+}
+
+// Those that name the object.
+fn naming(alloc: Global, all: &[Invocation], id: u32) -> Result<List<Invocation>, Fail> {
+    let mut found = List::new(alloc);
+    for v in all {
+        if v.objects.as_slice().contains(&id) {
+            found.push(*v)?;
+        }
+    }
+    Ok(found)
+}
+
+// How many objects these name, each as often as it is named.
+fn named(all: &[Invocation]) -> usize {
+    let mut sum = 0_usize;
+    for v in all {
+        sum = sum.saturating_add(v.objects.len());
+    }
+    sum
+}
+
+// Whether the sets find those of all enabled invocations that name the object.
+fn finds_those(alloc: Global, params: &Params, all: &[Invocation], id: u32) -> Result<bool, Fail> {
+    let found = params.tuples_with(alloc, id, 262_145)?;
+    Ok(found.as_slice() == naming(alloc, all, id)?.as_slice())
+}
+
+// The sets behind the first invocation of a text find, for some objects, those of all enabled invocations that name them, and
+// for all objects together as many as name one. There are so many enabled ones.
+fn agrees(rt: &impl Abort, alloc: Global, text: &str, count: usize) -> Result<(), Fail> {
+    assert!(rt; text.len() <= 1_048_576);
+    let program = accepted(alloc, text)?;
+    let stores = behind_the_first(rt, alloc, &program)?;
+    let params = Params::make(alloc, &program, &stores.kept)?;
+    let all = enabled(alloc, &program, &stores.plain)?;
+    assert_eq!(rt; all.len(), count);
+    let mut sum = 0_usize;
+    for id in 0..stores.kept.objects() {
+        if id < 8 || id % 100 == 0 {
+            assert!(rt; finds_those(alloc, &params, all.as_slice(), id)?);
+        }
+        let found = params.tuples_with(alloc, id, 262_145)?;
+        sum = sum.saturating_add(found.len());
+    }
+    assert_eq!(rt; sum, named(all.as_slice()));
+    Ok(())
+}
+
+// A text whose first invocation makes so many objects, of which any two are a pair.
+fn many(alloc: Global, objects: u32) -> Result<String, Fail> {
+    Ok(format!(in alloc;
+        "class A {{ flag f; }}
+task startup(StartupObject s in initialstate) {{
+  int i = 0;
+  while (i < {objects}) {{ new A(){{f := true}}; i = i + 1; }}
+  taskexit(s: initialstate := false);
+}}
+task pair(A x in f, A y in f) {{ }}"
+    )?)
+}
+
+#[test]
+fn pairs_of_512_objects(rt: HostRuntime) -> Result<(), Fail> {
+    let alloc = rt.alloc();
+    agrees(&rt, alloc, many(alloc, 512)?.as_str(), 261_632)
+}
+
+#[test]
+fn pairs_of_513_objects(rt: HostRuntime) -> Result<(), Fail> {
+    let alloc = rt.alloc();
+    agrees(&rt, alloc, many(alloc, 513)?.as_str(), 262_656)
+}
+
+const MIXED: &str = r#"tagtype T; tagtype U;
+class A { flag f; flag g; }
+class B { flag h; }
+task startup(StartupObject s in initialstate) {
+  tag a = new tag(T); tag b = new tag(T); tag c = new tag(U); tag d = new tag(U);
+  new A(){f := true, add a, add c};
+  new A(){f := true, g := true, add b, add d};
+  new B(){h := true, add a, add b};
+  new A(){g := true, add b, add c};
+  new B(){h := true, add d};
+  new B(){add a};
+  taskexit(s: initialstate := false);
+}
+task one(A x in f and !g with T t and U u) { }
+task two(A x in f or g with T t, B y in h with T t) { }
+task three(A x in f with T t, B y in h with T t, A z in g with U u) { }
+task four(A x in true with U u, A y in true with U u, B z in true with T t and T v, B w in !h) { }"#;
+
+#[test]
+fn guards_and_instances_of_two_types(rt: HostRuntime) -> Result<(), Fail> {
+    agrees(&rt, rt.alloc(), MIXED, 15)
+}
+
+// No changes but of one body.
+fn one_change(alloc: Global, id: u32, body: Body) -> Result<Changes, Fail>
+    ensures { IfOk result (λ c. (c.bodies ≡ record { id = id; body = body } ∷ []) × (c.made ≡ [])) }
+{
+    let mut bodies = List::new(alloc);
+    bodies.push(Written { id, body })?;
+    Ok(Changes {
+        bodies,
+        made: List::new(alloc),
+        tags: List::new(alloc),
+        text: List::new(alloc),
+    })
+}
+
+// What the sets find with no flag of the object set, and then again with its flags. It has no tag instances.
+fn there_and_back<L: Ledger>(
+    alloc: Global,
+    program: &Program,
+    store: &Store,
+    id: u32,
+    blank: Blank,
+) -> Result<List<String>, Fail>
+    requires there { id < length store.now.plain.bodies }
+    requires name { blank.name ≡ L.name }
+    requires parts { blank.parts ≡ L.parts }
+    requires some { 0 < L.parts }
+{
+    let mut steps = Steps::<L>::new(blank);
+    let mut params = Params::make(alloc, program, store)?;
+    let mut texts = List::new(alloc);
+    let body = store.body(id);
+    if !body.tags.is_empty() {
+        return Err("the object has no tag instances".into());
+    }
+    let mut cleared = body.copy(alloc)?;
+    cleared.flags = 0;
+    params.reserve_for(&one_change(alloc, id, cleared.copy(alloc)?)?)?;
+    params.update(
+        store.tags(),
+        &[],
+        id,
+        Some(body),
+        Some(&cleared),
+        &mut steps,
+    );
+    texts.push(told(alloc, program, &params, store.objects(), 262_145)?)?;
+    params.update(
+        store.tags(),
+        &[],
+        id,
+        Some(&cleared),
+        Some(body),
+        &mut steps,
+    );
+    texts.push(told(alloc, program, &params, store.objects(), 262_145)?)?;
+    Ok(texts)
+}
+
+#[test]
+fn an_update_and_the_one_back(rt: HostRuntime) -> Result<(), Fail> {
+    let alloc = rt.alloc();
+    let program = accepted(alloc, PAIRS)?;
+    let stores = behind_the_first(&rt, alloc, &program)?;
+    assert!(rt; stores.kept.objects() > 3);
+    let texts = there_and_back::<Brand>(alloc, &program, &stores.kept, 3, Blank::new(1))?;
+    let without = "2: pair(2,4) pair(4,2)
+4: pair(2,4) pair(4,2)
+";
+    let with = "2: pair(2,3) pair(2,4) pair(3,2) pair(4,2)
+3: pair(2,3) pair(3,2) pair(3,4) pair(4,3)
+4: pair(2,4) pair(3,4) pair(4,2) pair(4,3)
+";
+    assert_eq!(rt; texts.len(), 2);
+    for (text, lines) in texts.iter().zip([without, with]) {
+        assert_eq!(rt; text.as_str(), lines);
+    }
+    Ok(())
+}

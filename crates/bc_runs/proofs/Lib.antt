@@ -1,0 +1,4 @@
+pub mod Standing
+pub mod Sound
+pub mod Given
+pub mod Areas

@@ -1,0 +1,10 @@
+pub mod Lists
+pub mod Parts
+pub mod Adds
+pub mod Taken
+pub mod NextObject
+pub mod NextInstance
+pub mod Steps
+pub mod NextTask
+pub mod Sets
+pub mod Near

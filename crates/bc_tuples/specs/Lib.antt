@@ -1,0 +1,4 @@
+pub mod Tuples
+pub mod Search
+pub mod Laws
+pub mod Tied
