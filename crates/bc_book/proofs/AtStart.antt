@@ -55,7 +55,7 @@ pub record IsStart (P : Parts) (bytes : List ℕ) (most count : ℕ) (i : Inside
   pub input : i.input ≡ bytes
   pub limit : i.limit ≡ most
   pub store : i.store.plain ≡ start_store bytes
-  pub history : i.history ≡ []
+  pub history : i.history.items ≡ []
   pub listed : i.pending.listed ≡ all_enabled P (start_store bytes)
   pub held : i.pending.held ≡ replicate count None
   pub failures : i.failures.failures ≡ []

@@ -3,3 +3,7 @@ pub mod Events
 pub mod Taking
 pub mod Leaving
 pub mod AtStart
+pub mod Unmoved
+pub mod Recording
+pub mod Readying
+pub mod Committing

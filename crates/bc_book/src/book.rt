@@ -1,6 +1,6 @@
 // The book.
 
-ghost use Rattle.std.specs.Prelude.{◌≡◌, ◌<◌, ◌≤◌, length, slice_get, Option, None, Some, take as first, IfOk, IfSome, OnOk, OnErr, IsSome};
+ghost use Rattle.std.specs.Prelude.{◌≡◌, ◌<◌, All, ◌≤◌, length, slice_get, Option, None, Some, take as first, IfOk, IfSome, OnOk, OnErr, IsSome};
 ghost use Rattle.bc_data.specs.declared.run.Invocation.{Invocation as Call};
 ghost use Rattle.bc_mean.specs.Enabled.{is_enabled};
 ghost use Rattle.bc_failed.specs.Ordered.{ordered};
@@ -9,21 +9,38 @@ ghost use Rattle.bc_events.specs.Book.{held_by};
 ghost use Rattle.bc_events.specs.Events.{begin, given_up, halt, lose, pick, take};
 ghost use Rattle.bc_events.specs.Sound.{IsSoundBook};
 ghost use Rattle.bc_events.specs.SoundLaws.{book_at_start};
+ghost use Rattle.bc_events.specs.Steps.{recorded};
+ghost use Rattle.bc_events.specs.SoundLaws.{EndsSo};
+ghost use Rattle.bc_events.specs.Events.{commit_to, commit_with_room, over};
+ghost use Rattle.bc_data.specs.declared.run.Ran.TheVariants as ran;
+ghost use Rattle.bc_mean.specs.Changes.{apply_changes, fault_of_room};
+ghost use Rattle.bc_mean.specs.Enabled.{IsEnabled};
+ghost use Rattle.bc_mean.specs.Outcome.{body_outcome, place_of};
+ghost use Rattle.bc_machine.specs.Running.{IsAtExit, IsAtFault};
+ghost use Rattle.bc_runs.specs.Areas.{WasEnabled, changes_of};
+ghost use Rattle.bc_book.specs.Ends.{AreaAfter, TestsAtMost, commits, fails};
+ghost use Rattle.bc_moves.specs.Moves.{guard_tests};
 
-use crate::parts::{bodies_of, is_at_rest, pending_at_start, release};
+use crate::commit::{make_ready, push_in, renew};
+use crate::moved::first_moved;
+use crate::parts::{add_failure, bodies_of, is_at_rest, pending_at_start, release};
 use bc_data::list::{Bytes, List};
 use bc_data::program::Program;
-use bc_data::run::{Body, History, Invocation, Stop};
+use bc_data::run::{Body, Changes, Fault, History, Invocation, Place, Stop};
 use bc_data::task_set::TaskSet;
 use bc_events::laws::{enabled_names, keeps_sound_book};
-use bc_events::{Begun, Taken};
+use bc_events::{Begun, Commit, Failing, Taken};
 use bc_failed::entry::Failure;
 use bc_failed::failures::Failures;
 use bc_params::params::Params;
 use bc_pending::pending::Pending;
+use bc_search::drops::drop_touching;
+use bc_step::area::Area;
+use bc_steps::Steps;
 use bc_store::store::Store;
 use std::alloc::{AllocError, Global};
 use std::marker::Model;
+use std::sync::ledger::Ledger;
 
 /// What workers share: the program, its input and the store that the history leads to; the invocations that are pending,
 /// and the one that each worker has; the failures; and why the run is over, if it is.
@@ -36,7 +53,7 @@ pub struct Book {
     pending: Pending,
     workers: u32,
     failures: Failures,
-    history: History,
+    history: Vec<Invocation>,
     limit: u32,
     stop: Option<Stop>,
 }
@@ -87,7 +104,7 @@ impl Book {
             pending,
             workers,
             failures: Failures::make(alloc)?,
-            history: List::new(alloc),
+            history: Vec::new(alloc),
             limit,
             stop: None,
         })
@@ -143,7 +160,7 @@ impl Book {
         ensures { result ≡ self.history }
     {
         let Book { history, .. } = self;
-        history
+        List::from_vec(history)
     }
 
     /// What was printed.
@@ -280,6 +297,217 @@ impl Book {
         let back = self.is_enabled(v);
         release(&mut self.pending, worker, back);
         back
+    }
+
+    /// Records the failure of the worker's invocation, which the worker has no more. On `Err` memory was wanting, and nothing
+    /// changes.
+    fn record(
+        &mut self,
+        alloc: Global,
+        worker: u32,
+        v: Invocation,
+        fault: Fault,
+        touched: &[u32],
+    ) -> Result<(), AllocError>
+        requires holds { held_by self.old.running worker ≡ Some v }
+        requires there { All (λ id. id < length self.old.store.bodies) touched.now }
+        requires sound { IsSoundBook (recorded worker (record { v = v; fault = fault; touched = touched.now }) self.old) }
+        ensures ok { OnOk result (self.new ≡ recorded worker (record { v = v; fault = fault; touched = touched.now }) self.old) }
+        ensures err { OnErr result (self.new ≡ self.old) }
+    {
+        add_failure(alloc, &mut self.failures, v, fault, touched)?;
+        release(&mut self.pending, worker, false);
+        Ok(())
+    }
+
+    /// Ends the worker's invocation with this fault, which is recorded. Where an object has another body than the one that the
+    /// invocation ran over, it is given up as by `lose`. On `Err` memory was wanting, and nothing changes.
+    pub fn fail(
+        &mut self,
+        alloc: Global,
+        worker: u32,
+        fault: Fault,
+        area: &Area,
+    ) -> Result<Failing, AllocError>
+        requires holds { held_by self.old.running worker ≡ Some area.now.invocation }
+        requires was { WasEnabled self.old.program area.now }
+        requires faults { IsAtFault self.old.program area.now fault }
+        ensures answer { IfOk result (λ failing. failing ≡ (fails fault worker area.now self.old).answer) }
+        ensures book { OnOk result (self.new ≡ (fails fault worker area.now self.old).book) }
+        ensures err { OnErr result (self.new ≡ self.old) }
+    {
+        if let Some(id) = first_moved(&self.store, area) {
+            self.lose(worker);
+            return Ok(Failing::Moved { id });
+        }
+        let Some(v) = self.pending.held(worker) else {
+            unreachable!()
+        };
+        self.record(alloc, worker, v, fault, area.touched())?;
+        Ok(Failing::Recorded)
+    }
+
+    /// Ends the run by this stop, unless it is over. The worker gives up what it has. It takes no memory.
+    fn over(&mut self, worker: u32, stop: &Stop)
+        requires worker { worker < length self.old.running }
+        requires holds { IsSome (held_by self.old.running worker) }
+        requires sound { (v : Call) → held_by self.old.running worker ≡ Some v → IsSoundBook (over worker v stop.now self.old).book }
+        ensures { (v : Call) → held_by self.old.running worker ≡ Some v → self.new ≡ (over worker v stop.now self.old).book }
+    {
+        self.lose(worker);
+        self.stop = self.stop.or(Some(*stop));
+    }
+
+    /// The place of an invocation's task.
+    fn place(&self, v: &Invocation) -> Place
+        requires { v.now.task < length self.now.program.tasks }
+        ensures { result ≡ place_of (slice_get self.now.program.tasks v.now.task) }
+    {
+        self.program.tasks()[v.task as usize].at
+    }
+
+    /// Commits changes that have room, where no limit stands against it. On `Err` memory was wanting, and nothing changes.
+    fn publish<L: Ledger>(
+        &mut self,
+        alloc: Global,
+        worker: u32,
+        v: Invocation,
+        mut changes: Changes,
+        steps: &mut Steps<L>,
+    ) -> Result<Commit, AllocError>
+        requires holds { held_by self.old.running worker ≡ Some v }
+        requires enabled { IsEnabled self.old.program self.old.store v }
+        requires exits { (body_outcome self.old.program self.old.store v).ran ≡ ran.Commit changes }
+        requires room { fault_of_room self.old.store changes ≡ None }
+        requires left { length self.old.history < self.old.limit }
+        requires sound { IsSoundBook (commit_to (apply_changes self.old.store changes) worker v self.old).book }
+        ensures answer { IfOk result (λ c. c ≡ (commit_to (apply_changes self.old.store changes) worker v self.old).answer) }
+        ensures book { OnOk result (self.new ≡ (commit_to (apply_changes self.old.store changes) worker v self.old).book) }
+        ensures err { OnErr result (self.new ≡ self.old) }
+        ensures steps { IfOk result (TestsAtMost (guard_tests self.old.program changes) steps.old steps.new) }
+    {
+        self.history.reserve(1)?;
+        self.store.resolve(&mut changes);
+        let named = &v;
+        let ready = make_ready(
+            alloc,
+            &mut self.store,
+            &mut self.params,
+            &mut self.pending,
+            self.workers,
+            &self.failures,
+            &changes,
+            *named,
+            steps,
+        )?;
+        let Some(ready) = ready else {
+            let stop = Stop::Crowded(v);
+            self.over(worker, &stop);
+            return Ok(Commit::Over(stop));
+        };
+        renew(&mut self.pending, &self.params, worker, &ready);
+        drop_touching(&mut self.failures, ready.changed.as_slice());
+        self.store.publish(changes);
+        push_in(&mut self.history, v);
+        Ok(Commit::Committed(self.history.len() as u32))
+    }
+
+    /// Commits changes that have room, within the limit of commits. On `Err` memory was wanting, and nothing changes.
+    fn commit_to<L: Ledger>(
+        &mut self,
+        alloc: Global,
+        worker: u32,
+        v: Invocation,
+        changes: Changes,
+        steps: &mut Steps<L>,
+    ) -> Result<Commit, AllocError>
+        requires holds { held_by self.old.running worker ≡ Some v }
+        requires enabled { IsEnabled self.old.program self.old.store v }
+        requires exits { (body_outcome self.old.program self.old.store v).ran ≡ ran.Commit changes }
+        requires room { fault_of_room self.old.store changes ≡ None }
+        requires sound { IsSoundBook (commit_to (apply_changes self.old.store changes) worker v self.old).book }
+        ensures answer { IfOk result (λ c. c ≡ (commit_to (apply_changes self.old.store changes) worker v self.old).answer) }
+        ensures book { OnOk result (self.new ≡ (commit_to (apply_changes self.old.store changes) worker v self.old).book) }
+        ensures err { OnErr result (self.new ≡ self.old) }
+        ensures steps { IfOk result (TestsAtMost (guard_tests self.old.program changes) steps.old steps.new) }
+    {
+        if self.history.len() == self.limit as usize {
+            let stop = Stop::Spent(v);
+            self.over(worker, &stop);
+            return Ok(Commit::Over(stop));
+        }
+        self.publish(alloc, worker, v, changes, steps)
+    }
+
+    /// Commits changes, or records that there is no room for them. On `Err` memory was wanting, and nothing changes.
+    fn commit_changes<L: Ledger>(
+        &mut self,
+        alloc: Global,
+        worker: u32,
+        v: Invocation,
+        changes: Changes,
+        touched: &[u32],
+        steps: &mut Steps<L>,
+    ) -> Result<Commit, AllocError>
+        requires holds { held_by self.old.running worker ≡ Some v }
+        requires there { All (λ id. id < length self.old.store.bodies) touched.now }
+        requires ends { EndsSo self.old v (ran.Commit changes) touched.now }
+        requires sound { IsSoundBook (commit_with_room (fault_of_room self.old.store changes) changes touched.now worker v self.old).book }
+        ensures answer { IfOk result (λ c. c ≡ (commit_with_room (fault_of_room self.old.store changes) changes touched.now worker v self.old).answer) }
+        ensures book { OnOk result (self.new ≡ (commit_with_room (fault_of_room self.old.store changes) changes touched.now worker v self.old).book) }
+        ensures err { OnErr result (self.new ≡ self.old) }
+        ensures steps { IfOk result (TestsAtMost (guard_tests self.old.program changes) steps.old steps.new) }
+    {
+        if let Some(kind) = self.store.room_for(&changes) {
+            let fault = Fault {
+                kind,
+                at: self.place(&v),
+            };
+            self.record(alloc, worker, v, fault, touched)?;
+            return Ok(Commit::NoRoom(kind));
+        }
+        self.commit_to(alloc, worker, v, changes, steps)
+    }
+
+    /// Ends the worker's invocation, which exits with what the area changes: it is committed, and the area is empty. Where the
+    /// run is over, or an object has another body than the one that the invocation ran over, it is given up as by `lose`; where
+    /// the store has no room for it, that is recorded as its failure; where no commit is left, or too many invocations would be
+    /// enabled, it is given up, and the run is over. One step is one test of a guard: for each object that a commit changes or
+    /// makes one at most for each parameter of its class. On `Err` memory was wanting, and nothing changes.
+    pub fn commit<L: Ledger>(
+        &mut self,
+        alloc: Global,
+        worker: u32,
+        area: &mut Area,
+        steps: &mut Steps<L>,
+    ) -> Result<Commit, AllocError>
+        requires holds { held_by self.old.running worker ≡ Some area.old.invocation }
+        requires was { WasEnabled self.old.program area.old }
+        requires exits { IsAtExit self.old.program area.old }
+        ensures answer { IfOk result (λ c. c ≡ (commits worker area.old self.old).answer) }
+        ensures book { OnOk result (self.new ≡ (commits worker area.old self.old).book) }
+        ensures err { OnErr result (self.new ≡ self.old) }
+        ensures steps { IfOk result (TestsAtMost (guard_tests self.old.program (changes_of self.old.store area.old)) steps.old steps.new) }
+        ensures area { IfOk result (λ c. AreaAfter c area.old area.new) }
+        ensures same { OnErr result (area.new ≡ area.old) }
+    {
+        if let Some(stop) = self.stop {
+            self.over(worker, &stop);
+            return Ok(Commit::Over(stop));
+        }
+        if let Some(id) = first_moved(&self.store, area) {
+            self.lose(worker);
+            return Ok(Commit::Moved { id });
+        }
+        let Some(v) = self.pending.held(worker) else {
+            unreachable!()
+        };
+        let changes = area.changes(alloc)?;
+        let ended = self.commit_changes(alloc, worker, v, changes, area.touched(), steps)?;
+        if let Commit::Committed(_) = ended {
+            area.clear();
+        }
+        Ok(ended)
     }
 
     /// The worker gives its invocation up. `true` where it is still enabled, and pending again; elsewhere it is dropped. It

@@ -2,4 +2,6 @@
 #![tactic(auto)]
 
 pub mod book;
+mod commit;
+mod moved;
 mod parts;

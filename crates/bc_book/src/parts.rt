@@ -1,15 +1,18 @@
 // Parts of the book: the lists of invocations, and copies of bodies.
 
-ghost use Rattle.std.specs.Prelude.{◌≡◌, ◌<◌, ◌≤◌, ◌==◌, not, ◌&&◌, ◌++◌, All, length, replicate, slice_get, slice_set, option_to_list, None, is_some, if◌then◌else◌, IfOk, IsSome};
+ghost use Rattle.std.specs.Prelude.{◌≡◌, false, true, [], ◌∷◌, ◌<◌, ◌≤◌, ◌==◌, not, ◌&&◌, ◌++◌, All, length, replicate, slice_get, slice_set, option_to_list, None, is_some, if◌then◌else◌, IfOk, OnOk, OnErr, IsSome};
 ghost use Rattle.std.specs.List.{filter_map, list_any};
 ghost use Rattle.bc_mean.specs.Store.{start_store};
 ghost use Rattle.bc_mean.specs.Enabled.{all_enabled};
+ghost use Rattle.bc_mean.specs.Serial.{has_failure};
+ghost use Rattle.bc_mean.specs.Enabled.{are_different};
 ghost use Rattle.bc_pending.specs.Lists.{held_by};
 
 use bc_data::list::List;
 use bc_data::program::Program;
-use bc_data::run::Body;
+use bc_data::run::{Body, Fault, Invocation};
 use bc_events::laws::enabled_names;
+use bc_failed::failures::Failures;
 use bc_mean::laws::all_ascending;
 use bc_mean::{all_enabled, start};
 use bc_pending::pending::Pending;
@@ -84,4 +87,26 @@ pub(crate) fn pending_at_start(
     pending.reserve(enabled.len())?;
     pending.append_sorted(&enabled);
     Ok(pending)
+}
+
+/// Adds a failure. On `Err` memory was wanting, and the failures are as they were.
+pub(crate) fn add_failure(
+    alloc: Global,
+    failures: &mut Failures,
+    v: Invocation,
+    fault: Fault,
+    touched: &[u32],
+) -> Result<(), AllocError>
+    requires new { has_failure failures.old.failures v ≡ false }
+    requires few { length failures.old.failures < 262144 }
+    requires some { 1 ≤ length touched.now }
+    requires different { are_different touched.now ≡ true }
+    requires below { All (λ id. id < 65536) touched.now }
+    ensures ok { OnOk result (failures.new.failures ≡ failures.old.failures ++ record { v = v; fault = fault; touched = touched.now } ∷ []) }
+    ensures err { OnErr result (failures.new.failures ≡ failures.old.failures) }
+{
+    let touched = List::from_slice(alloc, touched)?;
+    failures.reserve(touched.len())?;
+    failures.add(v, fault, touched);
+    Ok(())
 }

@@ -1,149 +1,178 @@
 -- What the top call answers, and why.
-use Rattle.std.specs.Prelude.{◌≡◌, ◌⊎◌, ℕ, ◌<◌, ◌≤◌, List, [], length, Option, Some, None, IfSome, IsSomeAnd}
+use Rattle.std.specs.Prelude.{◌≡◌, ◌⊎◌, ℕ, ◌+◌, ◌<◌, ◌≤◌, List, length, Option, Some, IfSome, IsSomeAnd}
 use Rattle.bc_data.specs.Program.{Parts}
 use Rattle.bc_data.specs.ProgramView.{view_program}
 use Rattle.bc_data.specs.SourceTree.{Sequence, Item}
-use Rattle.bc_data.specs.declared.run.Invocation.{Invocation}
+use Rattle.bc_data.specs.Typed.{TypedProgram}
 use Rattle.bc_data.specs.declared.run.Place.{Place}
 use Rattle.bc_data.specs.declared.run.Stop.{Stop}
-use Rattle.bc_data.specs.declared.run.Stop.TheVariants as stop
-use Rattle.bc_base.specs.Outside.{Rose, Appends, AppendsPart}
+use Rattle.bc_data.specs.declared.run.Stop.TheVariants as stops
+use Rattle.bc_base.specs.Outside.{Rose, Appends, AppendsPart, GivesAll, LosesUpTo}
 use Rattle.bc_base.specs.Files.{Told, file_of, with_asked}
 use Rattle.bc_code.specs.declared.code.Code.{Code}
 use Rattle.bc_code.specs.Listing.{listing_text}
 use Rattle.bc_code.specs.Translation.{Translates}
 use Rattle.bc_print.specs.Canonical.{program_text}
-use Rattle.bc_data.specs.Typed.{TypedProgram}
-use Rattle.bc_small.specs.Small.{SmallTask, IsProgramOf}
-use Rattle.bc_small.specs.SmallText.{IsSmall}
+use Rattle.bc_failed.specs.declared.entry.Failure.{Failure}
 use Rattle.bc_serial.specs.Run.{IsRunOf}
-use Rattle.bc_serial.specs.declared.run.Failure.{Failure}
-use Rattle.bc_commands.specs.declared.answer.Answer.{Answer}
-use Rattle.bc_commands.specs.declared.answer.Refusal.{Refusal}
-use Rattle.bc_commands.specs.declared.answer.Refusal.TheVariants as refusal
 use Rattle.bc_words.specs.declared.commands.Command.{Command}
 use Rattle.bc_words.specs.declared.commands.Command.TheVariants as command
-use Rattle.bc_texts.specs.declared.refused.RefusedKind.{RefusedKind}
-use Rattle.bc_texts.specs.declared.refused.RefusedKind.TheVariants as kind
-use Rattle.bc_commands.specs.declared.top.Report.{Report}
 use Rattle.bc_words.specs.Commands.{IsCommand, IsNoCommand, file_limit}
+use Rattle.bc_texts.specs.declared.refused.RefusedKind.{RefusedKind}
+use Rattle.bc_texts.specs.Texts.{write_text, ok_text}
 use Rattle.bc_read.specs.Reading.{IsProgramText, IsRefused}
-use Rattle.bc_texts.specs.Texts.{stop_text, words_text, read_text, write_text, long_text, refused_text, ok_text, memory_text}
+use Rattle.bc_commands.specs.declared.answer.Refusal.{Refusal}
+use Rattle.bc_commands.specs.declared.answer.Refusal.TheVariants as refusal
+use Rattle.bc_commands.specs.declared.top.Report.{Report}
+use Rattle.bc_commands.specs.Reply.{Reply, reply_of_run, reply_without_end, reply_of_text, reply_of_fault, reply_of_refusal}
 
--- the status of a run that stopped so
-abbrev pub status_of : Stop → ℕ
-status_of stop.End = 0
-status_of (stop.Spent v) = 3
-status_of (stop.Crowded v) = 4
-status_of stop.Memory = 9
+-- a sink or a source before and after: what it took or has left, where it tells that, and its count of faults
+pub record Side : Type 0 where
+  pub old : Option (List ℕ)
+  pub new : Option (List ℕ)
+  pub old_faults : ℕ
+  pub new_faults : ℕ
 
--- A run is told: its status, its history, its stop, its output and what is told of its end.
-abbrev pub answer_of_run : Parts → List Invocation → Stop → List ℕ → List Failure → Answer
-answer_of_run program history stop output failures = record { status = status_of stop; history = history; stop = Some stop; out = output; err = stop_text program stop (length history) failures }
+abbrev pub side : {A : Type 0} → (A → Option (List ℕ)) → (A → ℕ) → A → A → Side
+side told faults old new = record { old = told old; new = told new; old_faults = faults old; new_faults = faults new }
 
--- a text alone is written
-abbrev pub answer_of_text : List ℕ → Answer
-answer_of_text text = record { status = 0; history = []; stop = None; out = text; err = [] }
+-- what a call reads: the files, where the shelf tells them, with the shelf's count of faults before and after; and the input
+pub record Inputs : Type 0 where
+  pub told : Option Told
+  pub old_faults : ℕ
+  pub new_faults : ℕ
+  pub source : Side
 
--- a program's text is refused
-abbrev pub answer_of_fault : RefusedKind → Place → Answer
-answer_of_fault kind at = record { status = 1; history = []; stop = None; out = []; err = refused_text kind at }
+abbrev pub inputs : Option Told → ℕ → ℕ → Side → Inputs
+inputs told old new source = record { told = told; old_faults = old; new_faults = new; source = source }
 
--- The text is a program of the small form, and the answer tells that program's serial run.
-pub record Serves (text : List ℕ) (commits : ℕ) (a : Answer) : Type 0 where
-  pub small : List SmallTask
-  pub spelled : IsSmall text small
-  pub program : Parts
-  pub translated : IsProgramOf program small
+-- how many bytes the input may have
+abbrev pub input_limit : ℕ
+input_limit = 65536
+
+abbrev pub IsUntouched : Side → Type 0
+IsUntouched s = (s.new ≡ s.old) × (s.new_faults ≡ s.old_faults)
+
+-- The whole input was read, and this is it.
+pub record IsInput (s : Side) (input : List ℕ) : Type 0 where
+  pub all : GivesAll s.old s.new input
+  pub within : length input ≤ input_limit
+  pub steady : s.new_faults ≡ s.old_faults
+
+-- where the source tells what is left, that is longer than the limit
+abbrev pub IsLongInput : Side → Type 0
+IsLongInput s = IfSome s.old (λ left. input_limit < length left)
+
+-- The answer tells the run of the program on this input. Where there was no memory for what is told of its end, it tells that
+-- alone; an end by want of memory needs none.
+pub record Tells (program : Parts) (input : List ℕ) (commits : ℕ) (a : Reply) : Type 0 where
   pub stop : Stop
+  pub output : List ℕ
   pub failures : List Failure
-  pub run : IsRunOf program commits a.history stop a.out failures
-  pub told : a ≡ answer_of_run program a.history stop a.out failures
+  pub run : IsRunOf program input commits a.history stop output failures
+  pub told :
+      (a ≡ reply_of_run program a.history stop output failures)
+      ⊎ ((stop ≡ stops.Memory → ⊥) × (a ≡ reply_without_end a.history stop))
 
-abbrev pub IsNotSmall : List ℕ → Type 0
-IsNotSmall text = (small : List SmallTask) → IsSmall text small → ⊥
+-- The text is a program, and the answer tells its run.
+pub record Serves (text input : List ℕ) (commits : ℕ) (a : Reply) : Type 0 where
+  pub items : Sequence Item
+  pub program : Parts
+  pub is : IsProgramText text items (view_program program)
+  pub tells : Tells program input commits a
 
 -- The text is a program, and the answer is the canonical text of its tree.
-abbrev pub Shows : List ℕ → Answer → Type 0
-Shows text a = (items : Sequence Item) × (program : TypedProgram) × IsProgramText text items program × (a ≡ answer_of_text (program_text items))
+abbrev pub Shows : List ℕ → Reply → Type 0
+Shows text a = (items : Sequence Item) × (program : TypedProgram) × IsProgramText text items program × (a ≡ reply_of_text (program_text items))
 
 -- The text is a program, and the answer counts what it declares.
-abbrev pub Checks : List ℕ → Answer → Type 0
-Checks text a = (items : Sequence Item) × (program : TypedProgram) × IsProgramText text items program × (a ≡ answer_of_text (ok_text (length program.classes) (length program.tag_types) (length program.tasks)))
+abbrev pub Checks : List ℕ → Reply → Type 0
+Checks text a = (items : Sequence Item) × (program : TypedProgram) × IsProgramText text items program × (a ≡ reply_of_text (ok_text (length program.classes) (length program.tag_types) (length program.tasks)))
 
 -- The text is a program, and the answer is the listing of its code.
-abbrev pub Lists : List ℕ → Answer → Type 0
+abbrev pub Lists : List ℕ → Reply → Type 0
 Lists text a =
     (items : Sequence Item) × (program : Parts) × (code : Code) × IsProgramText text items (view_program program) × Translates (view_program program) code
-    × (a ≡ answer_of_text (listing_text program code))
+    × (a ≡ reply_of_text (listing_text program code))
 
 -- The text is no program, and the answer tells its one fault.
-abbrev pub Refuses : List ℕ → Answer → Type 0
-Refuses text a = (kind : RefusedKind) × (at : Place) × IsRefused text kind at × (a ≡ answer_of_fault kind at)
+abbrev pub Refuses : List ℕ → Reply → Type 0
+Refuses text a = (kind : RefusedKind) × (at : Place) × IsRefused text kind at × (a ≡ reply_of_fault kind at)
 
--- What a command makes of the text of its file. A text that is no small program is refused by `serial` without a place.
-abbrev pub IsMadeOf : Command → List ℕ → Answer → Type 0
-IsMadeOf (command.Serial commits) text a = Serves text commits a ⊎ (IsNotSmall text × (a ≡ answer_of_fault kind.Unexpected (record { line = 1; column = 1 })))
-IsMadeOf command.Show text a = Shows text a ⊎ Refuses text a
-IsMadeOf command.Check text a = Checks text a ⊎ Refuses text a
-IsMadeOf command.Code text a = Lists text a ⊎ Refuses text a
+-- What a command makes of a program's text. `serial` alone reads the input.
+abbrev pub IsMadeOf : Command → List ℕ → Side → Reply → Type 0
+IsMadeOf (command.Serial commits) text source a = (input : List ℕ) × IsInput source input × Serves text input commits a
+IsMadeOf command.Show text source a = IsUntouched source × Shows text a
+IsMadeOf command.Check text source a = IsUntouched source × Checks text a
+IsMadeOf command.Code text source a = IsUntouched source × Lists text a
+
+-- What a command makes of the text of its file. No input is read for a text that is no program.
+abbrev pub IsMadeOrRefused : Command → List ℕ → Side → Reply → Type 0
+IsMadeOrRefused c text source a = IsMadeOf c text source a ⊎ (IsUntouched source × Refuses text a)
 
 -- where the shelf tells its files, this is the content of that name
 abbrev pub IsFile : Option Told → List ℕ → List ℕ → Type 0
 IsFile told file text = IfSome told (λ t. file_of t.files file ≡ Some text)
 
 -- where the shelf tells its files, that file is longer than the limit
-abbrev pub IsLongFile : Option Told → List ℕ → ℕ → Type 0
-IsLongFile told file limit = IfSome told (λ t. IsSomeAnd (file_of t.files file) (λ text. limit < length text))
+abbrev pub IsLongFile : Option Told → List ℕ → Type 0
+IsLongFile told file = IfSome told (λ t. IsSomeAnd (file_of t.files file) (λ text. file_limit < length text))
 
 -- The words are a command's, its file was read, and the answer is what the command makes of its text.
-pub record IsMade (words : List (List ℕ)) (told : Option Told) (a : Answer) : Type 0 where
+pub record IsMade (words : List (List ℕ)) (i : Inputs) (a : Reply) : Type 0 where
   pub command : Command
   pub file : List ℕ
   pub is : IsCommand words command file
   pub text : List ℕ
-  pub content : IsFile told file text
-  pub within : length text ≤ file_limit command
-  pub made : IsMadeOf command text a
+  pub content : IsFile i.told file text
+  pub within : length text ≤ file_limit
+  pub made : IsMadeOrRefused command text i.source a
 
--- The cause of each refusal; the numbers are the shelf's count of faults before and after. Want of memory has none.
-abbrev pub IsCause : List (List ℕ) → Option Told → ℕ → ℕ → Refusal → Type 0
-IsCause words told old new refusal.NoCommand = IsNoCommand words
-IsCause words told old new refusal.ReadFailed = (c : Command) × (file : List ℕ) × IsCommand words c file × Rose old new
-IsCause words told old new refusal.TooLong = (c : Command) × (file : List ℕ) × IsCommand words c file × IsLongFile told file (file_limit c)
-IsCause words told old new refusal.Memory = Unit {0}
+-- the command runs its text on the input, since it is a program
+abbrev pub IsRunOn : Command → List ℕ → Type 0
+IsRunOn (command.Serial commits) text = (items : Sequence Item) × (program : TypedProgram) × IsProgramText text items program
+IsRunOn command.Show text = ⊥
+IsRunOn command.Check text = ⊥
+IsRunOn command.Code text = ⊥
+
+-- the words are a command's that runs its file on the input
+abbrev pub TakesInput : List (List ℕ) → Option Told → Type 0
+TakesInput words told = (c : Command) × (file : List ℕ) × (text : List ℕ) × IsCommand words c file × IsFile told file text × IsRunOn c text
+
+-- The cause of each refusal at the input. Want of memory has none.
+abbrev pub IsInputCause : Side → Refusal → Type 0
+IsInputCause source refusal.NoCommand = ⊥
+IsInputCause source refusal.ReadFailed = Rose source.old_faults source.new_faults
+IsInputCause source refusal.TooLong = IsLongInput source
+IsInputCause source refusal.Memory = Unit {0}
+
+-- The cause of each refusal. Want of memory has none.
+abbrev pub IsCause : List (List ℕ) → Inputs → Refusal → Type 0
+IsCause words i refusal.NoCommand = IsNoCommand words
+IsCause words i refusal.ReadFailed =
+    ((c : Command) × (file : List ℕ) × IsCommand words c file × Rose i.old_faults i.new_faults)
+    ⊎ (TakesInput words i.told × Rose i.source.old_faults i.source.new_faults)
+IsCause words i refusal.TooLong =
+    ((c : Command) × (file : List ℕ) × IsCommand words c file × IsLongFile i.told file)
+    ⊎ (TakesInput words i.told × IsLongInput i.source)
+IsCause words i refusal.Memory = Unit {0}
 
 -- The shelf was asked for the command's file, once, or for nothing.
 abbrev pub AsksFile : List (List ℕ) → Option Told → Option Told → Type 0
 AsksFile words old new = new ≡ old ⊎ ((c : Command) × (file : List ℕ) × IsCommand words c file × (new ≡ with_asked old file))
 
-abbrev pub message_of : Refusal → List ℕ
-message_of refusal.NoCommand = words_text
-message_of refusal.ReadFailed = read_text
-message_of refusal.TooLong = long_text
-message_of refusal.Memory = memory_text
+-- The input was read, at most one byte past its limit.
+pub record IsTaken (s : Side) : Type 0 where
+  pub part : LosesUpTo s.old s.new (input_limit + 1)
+  pub count : s.old_faults ≤ s.new_faults
 
-abbrev pub status_of_refusal : Refusal → ℕ
-status_of_refusal refusal.NoCommand = 2
-status_of_refusal refusal.ReadFailed = 6
-status_of_refusal refusal.TooLong = 8
-status_of_refusal refusal.Memory = 9
-
-abbrev pub answer_of_refusal : Refusal → Answer
-answer_of_refusal r = record { status = status_of_refusal r; history = []; stop = None; out = []; err = message_of r }
+-- The input is as it was, unless the command runs its file on it.
+abbrev pub ReadsInput : List (List ℕ) → Option Told → Side → Type 0
+ReadsInput words told s = IsUntouched s ⊎ (TakesInput words told × IsTaken s)
 
 -- An answer with its cause: what the command makes of its file, or a refusal.
-abbrev pub IsAnswer : List (List ℕ) → Option Told → ℕ → ℕ → Answer → Type 0
-IsAnswer words told old new a =
-    IsMade words told a
-    ⊎ ((r : Refusal) × IsCause words told old new r × (a ≡ answer_of_refusal r))
-
--- a sink before and after: what it took, where it tells that, and its count of faults
-pub record Side : Type 0 where
-  pub old : Option (List ℕ)
-  pub new : Option (List ℕ)
-  pub old_faults : ℕ
-  pub new_faults : ℕ
+abbrev pub IsAnswer : List (List ℕ) → Inputs → Reply → Type 0
+IsAnswer words i a = IsMade words i a ⊎ ((r : Refusal) × IsCause words i r × (a ≡ reply_of_refusal r))
 
 -- all was written
 abbrev pub Takes : Side → List ℕ → Type 0
@@ -161,18 +190,18 @@ FailsEither output text out err =
 
 -- The answer is written, `out` before `err`. Where a write to `out` fails, `write failed` is tried on `err`; where any
 -- write fails, the status is 7. The history and the stop are the answer's in every case.
-abbrev pub IsWritten : Answer → Side → Side → ℕ → Type 0
+abbrev pub IsWritten : Reply → Side → Side → ℕ → Type 0
 IsWritten a out err status =
     ((status ≡ a.status) × Takes out a.out × Takes err a.err)
     ⊎ ((status ≡ 7) × FailsEither a.out a.err out err)
 
-pub record IsTold (a : Answer) (out err : Side) (r : Report) : Type 0 where
+pub record IsTold (a : Reply) (out err : Side) (r : Report) : Type 0 where
   pub written : IsWritten a out err r.status
   pub history : r.history ≡ a.history
   pub stop : r.stop ≡ a.stop
 
 -- The whole contract: some answer with its cause is told.
-pub record Answers (words : List (List ℕ)) (told : Option Told) (old_faults new_faults : ℕ) (out err : Side) (r : Report) : Type 0 where
-  pub answer : Answer
-  pub cause : IsAnswer words told old_faults new_faults answer
+pub record Answers (words : List (List ℕ)) (i : Inputs) (out err : Side) (r : Report) : Type 0 where
+  pub answer : Reply
+  pub cause : IsAnswer words i answer
   pub telling : IsTold answer out err r

@@ -1,1 +1,3 @@
+pub mod Reply
 pub mod Contract
+pub mod Runs

@@ -3,4 +3,5 @@
 
 pub mod answer;
 mod make;
+mod serve;
 pub mod top;

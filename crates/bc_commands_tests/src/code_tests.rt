@@ -1,6 +1,6 @@
 // The top call over objects in memory: `code`.
 
-use crate::tests::{call, expect};
+use crate::calls::{call, expect};
 use std::alloc::Global;
 use std::process::Abort;
 use std::test::Fail;

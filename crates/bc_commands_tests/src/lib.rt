@@ -2,12 +2,16 @@
 #![tactic(auto)]
 
 #[cfg(test)]
+mod calls;
+#[cfg(test)]
 mod check_tests;
 #[cfg(test)]
 mod code_tests;
 #[cfg(test)]
 mod manual_tests;
 #[cfg(test)]
-mod show_tests;
+mod outside_tests;
 #[cfg(test)]
-mod tests;
+mod serial_tests;
+#[cfg(test)]
+mod show_tests;

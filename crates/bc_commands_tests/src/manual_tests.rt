@@ -1,6 +1,6 @@
 // The rules of names and types as the manual tells them, each with programs that keep it and programs that don't.
 
-use crate::tests::call;
+use crate::calls::call;
 use std::alloc::Global;
 use std::process::Abort;
 use std::test::Fail;

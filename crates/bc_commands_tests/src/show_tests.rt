@@ -1,6 +1,6 @@
 // The top call over objects in memory: `show`.
 
-use crate::tests::{call, expect};
+use crate::calls::{call, expect};
 use bc_data::list::{Bytes, List};
 use std::alloc::Global;
 use std::process::Abort;

@@ -1,6 +1,6 @@
 -- What a commit appends to the pending list, and what it keeps, from the objects that move.
 use Rattle.std.proofs.Common.{◌≡◌, ℕ, zero, suc, ◌+◌, ◌<◌, ◌≤◌, inl, inr, Bool, true, false, not, ◌&&◌, ◌||◌, ◌==◌, List, [], ◌∷◌, ◌++◌, map, length, length-append, length-set, set, Option, None, refl, sym, ap, ◌∙◌, arith}
-use Rattle.std.specs.Prelude.{slice_get}
+use Rattle.std.specs.Prelude.{option_map, slice_get}
 use Rattle.std.specs.List.{range_with_len}
 use Rattle.std.proofs.lemmas.Bool.{cases_lt, eqb-false, or_parts, false≢true, cases_eq, eq-eqb, or_left, or_right}
 use Rattle.std.proofs.lemmas.List.{length-map}
@@ -19,7 +19,7 @@ use Rattle.bc_mean.specs.Serial.{Failed, has_failure, listed, same_invocation}
 use Rattle.bc_mean.proofs.Enabled.{all_ascending}
 use Rattle.bc_mean.proofs.Orders.{one_ascending}
 use Rattle.bc_events.specs.Book.{busy, is_running}
-use Rattle.bc_events.specs.Moves.{appended, failures_dropped, has, kept, names_any}
+use Rattle.bc_events.specs.Moves.{appended, bare, failures_dropped, has, kept, names_any}
 use Rattle.bc_events.specs.Laws.{AppendedMet, ChangesMove, KeptShort}
 use Rattle.bc_events.specs.Steps.{failures_left}
 use Rattle.bc_events.proofs.Exact.{listed_appended, ready}
@@ -100,10 +100,10 @@ changes_move S c = record {
       let q = or_parts (has ids id) (has new id) (sym (list_any-append (λ other. other == id) ids new) ∙ h) in
       let size : length put ≡ length S.bodies = put_length S c.bodies S.bodies in
       elim (cases_lt id (length S.bodies)) [
-        | inl l ↦ sym (get_front put made id (omega arith) ∙ put_else S c.bodies S.bodies id q.0)
+        | inl l ↦ ap (option_map bare) (sym (get_front put made id (omega arith) ∙ put_else S c.bodies S.bodies id q.0))
         | inr l ↦ elim (cases_lt id (length S.bodies + length c.made)) [
           | inl k ↦ absurd (false≢true (sym q.1 ∙ has_range (length S.bodies) (length c.made) id l k))
-          | inr k ↦ slice_get_past S.bodies id l ∙ sym (slice_get_past (put ++ made) id (omega (arith, size, length-append put made, length-map c.made (body_in S))))
+          | inr k ↦ ap (option_map bare) (slice_get_past S.bodies id l ∙ sym (slice_get_past (put ++ made) id (omega (arith, size, length-append put made, length-map c.made (body_in S)))))
         ]
       ];
   types = λ n type e. get_front S.tags c.tags n (slice_get_within S.tags n type e) ∙ e;

@@ -10,21 +10,21 @@ use Rattle.bc_mean.specs.Changes.{apply_changes}
 use Rattle.bc_mean.specs.Serial.{Failed}
 use Rattle.bc_mean.proofs.Orders.{both_ways}
 use Rattle.bc_events.specs.Book.{BookState, busy}
-use Rattle.bc_events.specs.Moves.{appended, has, kept, moved_by, names_any}
+use Rattle.bc_events.specs.Moves.{appended, has, kept, names_any}
 use Rattle.bc_events.specs.SoundLaws.{CommitMet}
 use Rattle.bc_events.specs.Steps.{failures_left}
-use Rattle.bc_events.proofs.Appended.{appended_met, changes_move, kept_short}
+use Rattle.bc_events.proofs.Appended.{appended_met, kept_short}
 use Rattle.bc_events.proofs.Written.{writes_are_changes}
 
 pub commit_met : CommitMet
-commit_met b worker v c found sound held fits exits up members =
+commit_met b worker v c moved found sound held fits exits moves up members =
     let T = apply_changes b.store c in
     let written = map (λ (u : Written). u.id) c.bodies in
     let others = set b.running worker None in
     ap (λ (ids : List ℕ). with_lists b T v others (kept b.program T b.pending ++ appended b.program T (failures_left ids b.failures) (busy others) b.pending) (failures_left ids b.failures)) (writes_are_changes b.program b.store v c fits exits)
     ∙ ap₂ (λ (front : List Invocation) (behind : List Invocation). with_lists b T v others (front ++ behind) (failures_left written b.failures))
-    (kept_short b T (moved_by b.store c) sound.exact (changes_move b.store c))
-    (appended_met b T (moved_by b.store c) written worker v found sound.exact held sound.typed fits (changes_move b.store c) up members)
+    (kept_short b T moved sound.exact moves)
+    (appended_met b T moved written worker v found sound.exact held sound.typed fits moves up members)
   where
     with_lists : BookState → Plain → Invocation → List (Option Invocation) → List Invocation → List Failed → BookState
     with_lists b T v others pending failures = record b { store = T; history = b.history ++ v ∷ []; pending = pending; running = others; failures = failures }

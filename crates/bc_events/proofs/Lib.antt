@@ -1,6 +1,7 @@
 pub mod Running
 pub mod Members
 pub mod Exact
+pub mod Bare
 pub mod Moves
 pub mod Appended
 pub mod Start

@@ -21,9 +21,9 @@ use Rattle.bc_data.specs.declared.run.TagRef.TheVariants as tag
 use Rattle.bc_mean.specs.declared.plain.Plain.{Plain}
 use Rattle.bc_mean.specs.Enabled.{are_different, carries, is_class, is_enabled, is_instance, is_some_and, take_all, takes}
 use Rattle.bc_mean.specs.Store.{Fits, FitsAs, IsPresentTag}
-use Rattle.bc_mean.proofs.Enabled.{named_alone}
 use Rattle.bc_mean.proofs.Lists.{each_weaker}
-use Rattle.bc_events.specs.Moves.{MovesOnly, has, names_any}
+use Rattle.bc_events.specs.Moves.{MovesOnly, bare, bare_at, has, names_any}
+use Rattle.bc_events.proofs.Bare.{bare_alone, bare_there}
 use Rattle.bc_events.proofs.Members.{none_of}
 
 pub some_and_parts : {A : Type 0} (o : Option A) (test : A → Bool) → is_some_and o test ≡ true → (x : A) × (o ≡ Some x) × (test x ≡ true)
@@ -153,14 +153,14 @@ carrier P T v typed Q a e k n at =
 
 module _ (P : Parts) (S T : Plain) (moved : List ℕ) (moves : MovesOnly moved S T) (v : Invocation) (still : names_any moved v ≡ false) where
   abbrev SameBody : ℕ → Type 0
-  SameBody id = slice_get S.bodies id ≡ slice_get T.bodies id
+  SameBody id = bare_at S id ≡ bare_at T id
 
   same_bodies : AllByRecursion SameBody v.objects
   same_bodies = each_weaker (λ id. has moved id ≡ false) SameBody (λ id h. moves.bodies id h) v.objects (none_of (has moved) v.objects still)
 
   alike : All (λ n. n < length S.tags) v.tags → is_enabled P S v ≡ is_enabled P T v
   alike a =
-      named_alone P S T v (All-from_recursion SameBody v.objects same_bodies)
+      bare_alone P S T v (All-from_recursion SameBody v.objects same_bodies)
       (λ k d l. let e = slice_get-get_or S.tags (get_or v.tags k d) 0 (a k d l) in e ∙ sym (moves.types (get_or v.tags k d) (get_or S.tags (get_or v.tags k d) 0) e))
 
   -- one that is enabled stays so
@@ -172,8 +172,10 @@ module _ (P : Parts) (S T : Plain) (moved : List ℕ) (moves : MovesOnly moved S
     tags_before : is_enabled P T v ≡ true → All (λ n. n < length S.tags) v.tags
     tags_before h k d l =
         let own = carrier P T v typed SameBody same_bodies (enabled_of P T v h) k (get_or v.tags k d) (slice_get-get_or v.tags k d l) in
-        instance_there S (get_or v.tags k d) own.body.tags
-        (tags_present P S own.body own.body.kind (all_get (λ c. FitsAs P S c.kind c) S.bodies own.id own.body fits.bodies (own.holds ∙ own.here))) own.bears
+        let before = bare_there (slice_get S.bodies own.id) own.body (own.holds ∙ ap (option_map bare) own.here) in
+        instance_there S (get_or v.tags k d) before.0.tags
+        (tags_present P S before.0 before.0.kind (all_get (λ c. FitsAs P S c.kind c) S.bodies own.id before.0 fits.bodies before.1))
+        (ap (λ (c : Body). list_any (is_instance (get_or v.tags k d)) c.tags) before.2 ∙ own.bears)
 
     -- and one that is enabled in T was so before
     pub was_enabled : is_enabled P T v ≡ true → is_enabled P S v ≡ true

@@ -1,7 +1,8 @@
 -- What moves from one store to the next, and what an incremental search for newly enabled invocations has to find.
-use Rattle.std.specs.Prelude.{◌≡◌, ℕ, Bool, false, not, ◌&&◌, ◌||◌, ◌==◌, List, ◌++◌, filter, length, map, slice_get, slice_set, Some, None}
+use Rattle.std.specs.Prelude.{◌≡◌, ℕ, Bool, false, not, ◌&&◌, ◌||◌, ◌==◌, List, [], ◌++◌, filter, length, map, slice_get, slice_set, option_map, Option, Some, None}
 use Rattle.std.specs.List.{list_any, range_with_len}
 use Rattle.bc_data.specs.Program.{Parts}
+use Rattle.bc_data.specs.declared.run.Body.{Body}
 use Rattle.bc_data.specs.declared.run.Changes.{Changes}
 use Rattle.bc_data.specs.declared.run.Invocation.{Invocation}
 use Rattle.bc_mean.specs.declared.plain.Plain.{Plain}
@@ -17,9 +18,16 @@ has ids id = list_any (λ other. other == id) ids
 abbrev pub names_any : List ℕ → Invocation → Bool
 names_any ids v = list_any (has ids) v.objects
 
--- Objects that are not among these keep their bodies, or are in neither store. Instances keep their types.
+-- what guards and tags are tested on: a body without its cells
+abbrev pub bare : Body → Body
+bare b = record { kind = b.kind; cells = []; flags = b.flags; tags = b.tags }
+
+abbrev pub bare_at : Plain → ℕ → Option Body
+bare_at S id = option_map bare (slice_get S.bodies id)
+
+-- Objects that are not among these keep their kind, flags and tags, or are in neither store. Instances keep their types.
 pub record MovesOnly (moved : List ℕ) (S T : Plain) : Type 0 where
-  pub bodies : (id : ℕ) → has moved id ≡ false → slice_get S.bodies id ≡ slice_get T.bodies id
+  pub bodies : (id : ℕ) → has moved id ≡ false → bare_at S id ≡ bare_at T id
   pub types : (n type : ℕ) → slice_get S.tags n ≡ Some type → slice_get T.tags n ≡ Some type
 
 -- the objects that changes write or make

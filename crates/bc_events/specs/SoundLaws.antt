@@ -19,7 +19,7 @@ use Rattle.bc_mean.specs.Store.{Fits, start_store}
 use Rattle.bc_mean.specs.Work.{Look}
 use Rattle.bc_events.specs.Book.{BookState, held_by}
 use Rattle.bc_events.specs.Events.{begin, commit, fail, first_moved, halt, lose, pick, take}
-use Rattle.bc_events.specs.Moves.{is_wanted, moved_by, names_any}
+use Rattle.bc_events.specs.Moves.{MovesOnly, is_wanted, names_any}
 use Rattle.bc_events.specs.Named.{IsNamed}
 use Rattle.bc_events.specs.Sound.{IsSoundBook, StillFails}
 use Rattle.bc_events.specs.Steps.{committed, failures_left}
@@ -102,22 +102,24 @@ pub record EnabledNames : Type 0 where
   pub enabled : (P : Parts) (S : Plain) (v : Invocation) → IsWellTyped (view_program P) → IsEnabled P S v → IsNamed P S v
   pub kept : (P : Parts) (S : Plain) (v : Invocation) (c : Changes) → IsNamed P S v → IsNamed P (apply_changes S c) v
 
--- A commit, as it is found from what moved: those that name an object that moved and are not enabled any more fall out, what
--- is wanted goes behind the others, and the failures that touched what was written are dropped.
+-- A commit, as it is found from any list of objects that has all whose kind, flags or tags differ behind it: those that name one
+-- of these and are not enabled any more fall out, what is wanted goes behind the others, and the failures that touched what was
+-- written are dropped.
 abbrev pub CommitMet : Type 0
 CommitMet =
-    (b : BookState) (worker : ℕ) (v : Invocation) (c : Changes) (found : List Invocation)
+    (b : BookState) (worker : ℕ) (v : Invocation) (c : Changes) (moved : List ℕ) (found : List Invocation)
     → IsSoundBook b
     → held_by b.running worker ≡ Some v
     → Fits b.program b.store
     → (body_outcome b.program b.store v).ran ≡ ran.Commit c
+    → MovesOnly moved b.store (apply_changes b.store c)
     → IsAscending found
-    → ((w : Invocation) → listed found w ≡ (is_enabled b.program (apply_changes b.store c) w && is_wanted (moved_by b.store c) (map (λ u. u.id) c.bodies) worker v b w))
+    → ((w : Invocation) → listed found w ≡ (is_enabled b.program (apply_changes b.store c) w && is_wanted moved (map (λ u. u.id) c.bodies) worker v b w))
     → committed worker (apply_changes b.store c) v b
     ≡ record b {
       store = apply_changes b.store c;
       history = b.history ++ v ∷ [];
-      pending = filter (λ w. not (names_any (moved_by b.store c) w) || is_enabled b.program (apply_changes b.store c) w) b.pending ++ found;
+      pending = filter (λ w. not (names_any moved w) || is_enabled b.program (apply_changes b.store c) w) b.pending ++ found;
       running = slice_set b.running worker None;
       failures = failures_left (map (λ u. u.id) c.bodies) b.failures;
     }

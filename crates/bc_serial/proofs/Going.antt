@@ -1,131 +1,99 @@
--- One more commit in a run of a small program.
-use Rattle.std.proofs.Common.{◌≡◌, ℕ, zero, suc, ◌+◌, ◌-◌, ◌<◌, ◌≤◌, Bool, true, false, cond, List, [], ◌∷◌, ◌++◌, ◌==◌, length, map, ⊎_elim, refl, sym, ◌∙◌, ap, subst, arith, Option, Some, None, append-nil, length-append}
-use Rattle.std.specs.Prelude.{slice_get, unwrap_or, nat_lt, option_and_then}
-use Rattle.std.specs.List.{range_with_len}
-use Rattle.std.proofs.lemmas.Bool.{le-ltb, ltb-true}
-use Rattle.std.proofs.lemmas.Bool.Decides.{eqb_tells}
-use Rattle.std.proofs.lemmas.List.FromFn.{length-map-range_with_len}
+-- The run goes on turn by turn, and is over where a stop is set or memory was wanting.
+use Rattle.std.proofs.Common.{◌≡◌, ℕ, zero, suc, ◌<◌, Bool, true, false, not, List, [], ◌∷◌, length, length-set, Option, Some, None, refl, sym, ap, subst, ◌∙◌}
+use Rattle.std.specs.Prelude.{is_some, slice_set}
+use Rattle.std.specs.List.{list_any}
+use Rattle.std.specs.Option.{option_or}
+use Rattle.std.proofs.lemmas.Bool.{true≢false}
 use Rattle.bc_data.specs.Program.{Parts}
-use Rattle.bc_data.specs.declared.program.Task.{Task}
 use Rattle.bc_data.specs.declared.run.Invocation.{Invocation}
+use Rattle.bc_data.specs.declared.run.Stop.{Stop}
 use Rattle.bc_data.specs.declared.run.Stop.TheVariants as stop
-use Rattle.bc_mean.specs.declared.plain.Plain.{Plain}
-use Rattle.bc_mean.specs.Store.{start_store}
-use Rattle.bc_mean.specs.Enabled.{all_enabled}
-use Rattle.bc_mean.specs.Outcome.{outcome}
-use Rattle.bc_mean.specs.Serial.{Course, course_at_start, serial_step, serial_steps, step_pending, step_ran, try_commit, committed, stopped, is_crowded, after_commit, after_ran, unless_crowded, replay_from}
-use Rattle.bc_serial.specs.Run.{CanRun, AllCanRun, text_of, exit_of, on_startup, turns_from, next_turn}
-use Rattle.bc_serial.proofs.Turns.{store_at, queue_at, course_at, IsUnderWay}
-use Rattle.bc_serial.proofs.Enabling.{enabled_startup, all_enabled_at}
-use Rattle.bc_serial.proofs.Performing.{changes_of, commits, applied}
-use Rattle.bc_serial.proofs.Turning.{behind, pending_turn, turns_next, turns_here}
+use Rattle.bc_mean.specs.Serial.{Course, serial_step, serial_steps}
+use Rattle.bc_events.specs.Book.{BookState, held_by}
+use Rattle.bc_events.specs.Events.{given_up, halt}
+use Rattle.bc_events.specs.Steps.{given, put_back, stopped}
+use Rattle.bc_events.specs.Turns.{IsAt, IsSameRun, turn}
+use Rattle.bc_events.proofs.Turns.{turns_are_steps}
+use Rattle.bc_book.proofs.Events.{halt_as}
+use Rattle.bc_serial.specs.Run.{Finishes, HasTaken, course_after, course_of, stop_of}
+use Rattle.bc_serial.proofs.Taking.{any, is_taken, taken_held}
 
-pub not_crowded : (P : Parts) (f : Bool) (out : List ℕ) → AllCanRun P.tasks → length P.tasks ≤ 256 → is_crowded P (store_at f out) ≡ false
-not_crowded P true out h few =
-    let e : length (all_enabled P (store_at true out)) ≡ length P.tasks = ap length (all_enabled_at P true out h) ∙ length-map-range_with_len on_startup 0 (length P.tasks) in
-    le-ltb 262144 _ (omega arith)
-not_crowded P false out h few =
-    let e : length (all_enabled P (store_at false out)) ≡ 0 = ap length (all_enabled_at P false out h) in
-    le-ltb 262144 _ (omega arith)
+-- some turns on
+pub record GoesOn (b d : BookState) : Type 0 where
+  pub steps : ℕ
+  pub same : IsSameRun b d
+  pub at : IsAt d (course_after b steps)
 
-queue_here : (n k l : ℕ) → n ≡ k + suc l → queue_at n true k ≡ on_startup k ∷ map on_startup (behind k l)
-queue_here n k l e = ap (λ m. map on_startup (turns_from m k)) e ∙ ap (map on_startup) (turns_here k l)
+-- one step behind many
+last_step : (P : Parts) (limit n : ℕ) (r : Course) → serial_step P limit (serial_steps P limit n r) ≡ serial_steps P limit (suc n) r
+last_step P limit zero r = refl
+last_step P limit (suc n) r = last_step P limit n (serial_step P limit r)
 
-queue_next : (n k l : ℕ) (f : Bool) → n ≡ k + suc l → cond f (map on_startup (behind k l ++ k ∷ [])) [] ≡ queue_at n f (next_turn n k)
-queue_next n k l f e = ap (λ xs. cond f (map on_startup xs) []) (turns_next k l ∙ ap (λ m. turns_from m (next_turn m k)) (sym e))
+same_then : (b d e : BookState) → IsSameRun b d → IsSameRun d e → IsSameRun b e
+same_then b d e h k = record { program = k.program ∙ h.program; input = k.input ∙ h.input; limit = k.limit ∙ h.limit; workers = k.workers ∙ h.workers }
 
-step_commits : (P : Parts) (limit k l : ℕ) (t : Task) (history : List Invocation) (out : List ℕ) → AllCanRun P.tasks → length P.tasks ≤ 256 → length P.tasks ≡ k + suc l →
-    slice_get P.tasks k ≡ Some t → CanRun t → length history < limit → length out + length (text_of t.body.items) ≤ 16777216 →
-    serial_step P limit (course_at (length P.tasks) true k history out)
-    ≡ course_at (length P.tasks) (unwrap_or (exit_of t.body.items) true) (next_turn (length P.tasks) k) (history ++ on_startup k ∷ []) (out ++ text_of t.body.items)
-step_commits P limit k l t history out h few e at can below room =
-    let n = length P.tasks in
-    let r = course_at n true k history out in
-    let v = on_startup k in
-    let rest = map on_startup (behind k l) in
-    let o = outcome P (store_at true out) v in
-    let c = changes_of true out (exit_of t.body.items) (text_of t.body.items) in
-    let f = unwrap_or (exit_of t.body.items) true in
-    let next = out ++ text_of t.body.items in
-    let T = store_at f next in
-    let other : (length history == limit) ≡ false = differs (length history) limit (omega arith) in
-    ap (λ q. step_pending P limit q r) (queue_here n k l e)
-    ∙ ap (λ x. step_ran P limit x o.touched v rest r) (commits P true out k t at can room)
-    ∙ ap (λ S. try_commit P limit S v rest r) (applied true out (exit_of t.body.items) (text_of t.body.items))
-    ∙ ap (λ b. cond b (stopped (stop.Spent v) r) (cond (is_crowded P T) (stopped (stop.Crowded v) r) (committed P T v rest r))) other
-    ∙ ap (λ b. cond b (stopped (stop.Crowded v) r) (committed P T v rest r)) (not_crowded P f next h few)
-    ∙ ap (λ q. record { store = T; history = history ++ v ∷ []; pending = q; failures = []; ended = None }) (pending_turn P f next k l h e ∙ queue_next n k l f e)
-  where
-    differs : (m n : ℕ) → m < n → (m == n) ≡ false
-    differs m n lt = ⊎_elim (λ same. absurd (let s : m ≡ n = same.1 in omega arith)) (λ other. other.0) (eqb_tells m n)
-
-commit_replays : (P : Parts) (k : ℕ) (t : Task) (out : List ℕ) → AllCanRun P.tasks → length P.tasks ≤ 256 → slice_get P.tasks k ≡ Some t → CanRun t → length out + length (text_of t.body.items) ≤ 16777216 →
-    after_commit P (store_at true out) (on_startup k) ≡ Some (store_at (unwrap_or (exit_of t.body.items) true) (out ++ text_of t.body.items))
-commit_replays P k t out h few at can room =
-    let S = store_at true out in
-    let v = on_startup k in
-    let f = unwrap_or (exit_of t.body.items) true in
-    let T = store_at f (out ++ text_of t.body.items) in
-    ap (λ b. cond b (after_ran P S (outcome P S v).ran) None) (enabled_startup P true out k t at can)
-    ∙ ap (after_ran P S) (commits P true out k t at can room)
-    ∙ ap (unless_crowded P) (applied true out (exit_of t.body.items) (text_of t.body.items))
-    ∙ ap (λ b. cond b None (Some T)) (not_crowded P f (out ++ text_of t.body.items) h few)
-
-pub replayed_more : (P : Parts) (history : List Invocation) (S T U : Plain) (v : Invocation) → replay_from P S history ≡ Some T → after_commit P T v ≡ Some U → replay_from P S (history ++ v ∷ []) ≡ Some U
-replayed_more P [] S T U v e g = ap (option_and_then (λ X. Some X)) (subst (λ X. after_commit P X v ≡ Some U) (sym (let same : S ≡ T = cc in same)) g)
-replayed_more P (w ∷ history) S T U v e g = through (after_commit P S w) e (λ X d. replayed_more P history X T U v d g)
-  where
-    through : (o : Option Plain) → option_and_then (λ X. replay_from P X history) o ≡ Some T → ((X : Plain) → replay_from P X history ≡ Some T → replay_from P X (history ++ v ∷ []) ≡ Some U) →
-        option_and_then (λ X. replay_from P X (history ++ v ∷ [])) o ≡ Some U
-    through None e go = cc
-    through (Some X) e go = go X e
-
-pub steps_more : (P : Parts) (limit m : ℕ) (r : Course) → serial_steps P limit (suc m) r ≡ serial_step P limit (serial_steps P limit m r)
-steps_more P limit zero r = refl
-steps_more P limit (suc m) r = steps_more P limit m (serial_step P limit r)
-
-pub starts : (P : Parts) (limit : ℕ) → AllCanRun P.tasks → IsUnderWay P limit true 0 [] [] 0
-starts P limit h =
-    let n = length P.tasks in
-    let e : n - 0 ≡ n = omega arith in
+pub turn_more : (b d : BookState) → GoesOn b d → GoesOn b (turn 0 d)
+turn_more b d g =
+    let r = course_after b g.steps in
     record {
-      steps = 0;
-      reached = ap (λ q. record { store = store_at true []; history = []; pending = q; failures = []; ended = None })
-          (all_enabled_at P true [] h ∙ ap (map on_startup) (ap (range_with_len 0) (sym e) ∙ sym (append-nil (range_with_len 0 (n - 0)))));
-      replayed = refl;
-      in_turn = λ some. some;
-      no_turn = λ none. refl;
-      counted = refl;
-      room = omega arith;
+      steps = suc g.steps;
+      same = same_then b d (turn 0 d) g.same (turns_are_steps.same 0 d);
+      at =
+          subst (IsAt (turn 0 d)) (last_step b.program b.limit g.steps (course_of b))
+          (subst (λ (P : Parts). IsAt (turn 0 d) (serial_step P b.limit r)) g.same.program
+          (subst (λ (limit : ℕ). IsAt (turn 0 d) (serial_step d.program limit r)) g.same.limit (turns_are_steps.one 0 d r g.at)));
     }
 
--- one more commit, of the task whose turn it is
-pub goes_on : (P : Parts) (limit k count : ℕ) (t : Task) (history : List Invocation) (out : List ℕ) → AllCanRun P.tasks → length P.tasks ≤ 256 → limit ≤ 256 → count < limit →
-    k < length P.tasks → slice_get P.tasks k ≡ Some t → CanRun t → IsUnderWay P limit true k history out count →
-    IsUnderWay P limit (unwrap_or (exit_of t.body.items) true) (next_turn (length P.tasks) k) (history ++ on_startup k ∷ []) (out ++ text_of t.body.items) (count + 1)
-goes_on P limit k count t history out h few small below lt at can u =
-    let n = length P.tasks in
-    let l = n - suc k in
-    let e : n ≡ k + suc l = omega arith in
-    let x = u.counted in
-    let y = u.room in
-    let short = can.short in
-    let room : length out + length (text_of t.body.items) ≤ 16777216 = omega arith in
-    let grown = length-append out (text_of t.body.items) in
-    let pushed = length-append history (on_startup k ∷ []) in
-    record {
-      steps = suc u.steps;
-      reached = steps_more P limit u.steps (course_at_start P []) ∙ ap (serial_step P limit) u.reached ∙ step_commits P limit k l t history out h few e at can (omega arith) room;
-      replayed = replayed_more P history (start_store []) (store_at true out) _ (on_startup k) u.replayed (commit_replays P k t out h few at can room);
-      in_turn = λ some. next_below n k lt;
-      no_turn = λ none. absurd (omega arith);
-      counted = pushed ∙ (let one : length history + 1 ≡ count + 1 = omega arith in one);
-      room = omega arith;
-    }
+-- no stop is set, by the loop's test
+pub goes_still : (o p : Option Stop) (test : Bool) → p ≡ o → is_some p ≡ not test → test ≡ true → o ≡ None
+goes_still o p test same value on = sym same ∙ none p (value ∙ ap not on)
   where
-    next_of : (n k : ℕ) (b : Bool) → k < n → nat_lt (k + 1) n ≡ b → cond b (k + 1) 0 < n
-    next_of n k true lt e = ltb-true (k + 1) n e
-    next_of n k false lt e = omega arith
+    none : (p : Option Stop) → is_some p ≡ false → p ≡ None
+    none None h = refl
+    none (Some s) h = absurd (true≢false h)
 
-    next_below : (n k : ℕ) → k < n → next_turn n k < n
-    next_below n k lt = next_of n k (nat_lt (k + 1) n) lt refl
+-- The worker is free again.
+idle_again : (running : List (Option Invocation)) (slot : Option Invocation) → list_any is_some running ≡ false → list_any is_some (slice_set (slice_set running 0 slot) 0 None) ≡ false
+idle_again [] slot idle = refl
+idle_again (None ∷ rest) slot idle = idle
+idle_again (Some v ∷ rest) slot idle = absurd (true≢false idle)
+
+-- Memory was wanting, and the worker has what it took.
+module _ (b d e : BookState) (g : GoesOn b d) (going : d.stop ≡ None) (taken : HasTaken d e) (worker : 0 < length d.running) where
+  abbrev given_book : BookState
+  given_book = given 0 any taken.v d
+
+  halted_is : halt 0 e ≡ stopped stop.Memory (put_back 0 taken.v given_book)
+  halted_is =
+      halt_as e 0
+      ∙ ap (λ (o : Option Invocation). stopped stop.Memory (given_up 0 o e)) (taken_held d e taken.v taken.took worker)
+      ∙ ap (λ (x : BookState). stopped stop.Memory (put_back 0 taken.v x)) (is_taken d e taken.v taken.took).book
+
+  halted_stop : option_or d.stop (Some stop.Memory) ≡ Some (stop_of (course_after b g.steps).ended)
+  halted_stop =
+      ap (λ (o : Option Stop). option_or o (Some stop.Memory)) going
+      ∙ ap (λ (o : Option Stop). Some (stop_of o)) (sym going ∙ g.at.stop)
+
+  halted_size : length (slice_set (slice_set d.running 0 (Some taken.v)) 0 None) ≡ length d.running
+  halted_size = length-set (slice_set d.running 0 (Some taken.v)) 0 None ∙ length-set d.running 0 (Some taken.v)
+
+  pub halted : Finishes b (halt 0 e)
+  halted =
+      subst (Finishes b) (sym halted_is)
+      (record {
+        steps = g.steps;
+        same = record { program = g.same.program; input = g.same.input; limit = g.same.limit; workers = halted_size ∙ g.same.workers };
+        store = g.at.store;
+        history = g.at.history;
+        failures = g.at.failures;
+        stop = halted_stop;
+        idle = idle_again d.running (Some taken.v) g.at.idle;
+      })
+
+-- Halting leaves the workers there.
+pub halt_size : (b : BookState) → length (halt 0 b).running ≡ length b.running
+halt_size b = ap (λ (x : BookState). length x.running) (halt_as b 0) ∙ left (held_by b.running 0)
+  where
+    left : (o : Option Invocation) → length (given_up 0 o b).running ≡ length b.running
+    left None = refl
+    left (Some v) = length-set b.running 0 None

@@ -1,9 +1,7 @@
-pub mod Turns
-pub mod Enabling
-pub mod Performing
-pub mod Turning
-pub mod Going
+pub mod Results
+pub mod Taking
 pub mod Ending
-pub mod Rooms
-pub mod Serving
-pub mod Qualifying
+pub mod Machines
+pub mod Going
+pub mod Measure
+pub mod Telling

@@ -1,147 +1,87 @@
--- What a run of a small program comes to.
-use Rattle.std.specs.Prelude.{◌≡◌, ℕ, ◌+◌, ◌-◌, ◌≤◌, if◌then◌else◌, nat_lt, unwrap_or, Bool, true, false, List, [], ◌∷◌, ◌++◌, length, map, Option, Some, None, nat_le, slice_get}
-use Rattle.std.specs.List.{filter_map, find, range_with_len}
+-- What a run of one thread comes to.
+use Rattle.std.specs.Prelude.{◌≡◌, ◌⊎◌, ℕ, ◌<◌, true, false, List, length, map, All, Option, Some, None, is_some}
+use Rattle.std.specs.List.{list_any}
 use Rattle.bc_data.specs.Program.{Parts}
-use Rattle.bc_data.specs.declared.program.Task.{Task}
-use Rattle.bc_data.specs.declared.program.Stat.{Stat}
-use Rattle.bc_data.specs.declared.program.Stat as stat
-use Rattle.bc_data.specs.declared.program.Part.{Part}
-use Rattle.bc_data.specs.declared.program.Part.TheVariants as part
-use Rattle.bc_data.specs.declared.program.Change.{Change}
-use Rattle.bc_data.specs.declared.program.Change.TheVariants as change
+use Rattle.bc_data.specs.declared.run.Changes.{Changes}
+use Rattle.bc_data.specs.declared.run.Fault.{Fault}
 use Rattle.bc_data.specs.declared.run.Invocation.{Invocation}
-use Rattle.bc_data.specs.declared.run.FaultKind.TheVariants as fault
-use Rattle.bc_data.specs.declared.run.Ran.{Ran}
 use Rattle.bc_data.specs.declared.run.Ran.TheVariants as ran
 use Rattle.bc_data.specs.declared.run.Stop.{Stop}
 use Rattle.bc_data.specs.declared.run.Stop.TheVariants as stop
 use Rattle.bc_mean.specs.declared.plain.Plain.{Plain}
-use Rattle.bc_mean.specs.Outcome.{outcome, place_of}
-use Rattle.bc_mean.specs.Enabled.{all_enabled, is_some_and}
-use Rattle.bc_mean.specs.Serial.{Course as SerialCourse, IsSerialRun, IsQuiet, replay}
-use Rattle.bc_serial.specs.declared.run.Failure.{Failure}
-use Rattle.bc_serial.specs.declared.run.Course.{Course}
-use Rattle.bc_small.specs.Small.{IsStartup}
+use Rattle.bc_mean.specs.Changes.{apply_changes}
+use Rattle.bc_mean.specs.Enabled.{all_enabled}
+use Rattle.bc_mean.specs.Outcome.{outcome}
+use Rattle.bc_mean.specs.Serial.{Course, IsQuiet, course_at_start, is_crowded, replay, serial_steps}
+use Rattle.bc_mean.specs.Sound.{Commits}
+use Rattle.bc_failed.specs.declared.entry.Failure.{Failure}
+use Rattle.bc_failed.specs.Ordered.{ordered}
+use Rattle.bc_events.specs.declared.answers.Taken.TheVariants as taken
+use Rattle.bc_events.specs.Book.{BookState}
+use Rattle.bc_events.specs.Events.{answers, take}
+use Rattle.bc_events.specs.Sound.{LacksRoom}
+use Rattle.bc_events.specs.Turns.{IsSameRun}
 
--- the text of a `print`
-abbrev pub text_of_parts : List Part → List ℕ
-text_of_parts [] = []
-text_of_parts (part.Text bytes ∷ parts) = bytes ++ text_of_parts parts
-text_of_parts (part.Number e ∷ parts) = text_of_parts parts
-text_of_parts (part.Truth e ∷ parts) = text_of_parts parts
+-- the run so far, as the book has it
+abbrev pub course_of : BookState → Course
+course_of b = record { store = b.store; history = b.history; pending = b.pending; failures = b.failures; ended = b.stop }
 
--- what a body prints up to where it is left
-abbrev pub text_of : List Stat → List ℕ
-text_of [] = []
-text_of (stat.Print at parts ∷ stats) = text_of_parts parts.items ++ text_of stats
-text_of (stat.Exit changes ∷ stats) = []
-text_of (_ ∷ stats) = text_of stats
+-- where it is so many steps later
+abbrev pub course_after : BookState → ℕ → Course
+course_after b steps = serial_steps b.program b.limit steps (course_of b)
 
-abbrev pub flag_of : List Change → Bool
-flag_of (change.Flag p f b ∷ changes) = b
-flag_of _ = false
+-- how it ended; where it has not ended, memory was wanting
+abbrev pub stop_of : Option Stop → Stop
+stop_of None = stop.Memory
+stop_of (Some s) = s
 
--- what the `taskexit` that is reached makes of the flag, if one is reached
-abbrev pub exit_of : List Stat → Option Bool
-exit_of [] = None
-exit_of (stat.Exit changes ∷ stats) = Some (flag_of changes.items)
-exit_of (_ ∷ stats) = exit_of stats
+-- The run of one thread went on from the book b, some steps on, to the book d. There it ended, or memory was wanting, and no
+-- worker has anything.
+pub record Finishes (b d : BookState) : Type 0 where
+  pub steps : ℕ
+  pub same : IsSameRun b d
+  pub store : d.store ≡ (course_after b steps).store
+  pub history : d.history ≡ (course_after b steps).history
+  pub failures : d.failures ≡ (course_after b steps).failures
+  pub stop : d.stop ≡ Some (stop_of (course_after b steps).ended)
+  pub idle : list_any is_some d.running ≡ false
 
-abbrev pub ArePlainParts : List Part → Type 0
-ArePlainParts [] = Unit {0}
-ArePlainParts (part.Text bytes ∷ parts) = ArePlainParts parts
-ArePlainParts _ = ⊥
+-- Worker 0 has taken an invocation, and that is all.
+pub record HasTaken (b d : BookState) : Type 0 where
+  pub v : Invocation
+  pub took : take 0 (λ v. true) b ≡ answers (taken.Got v) d
 
-abbrev pub IsFlagExit : List Change → Type 0
-IsFlagExit (change.Flag p f b ∷ []) = (p ≡ 0) × (f ≡ 0)
-IsFlagExit _ = ⊥
+-- The enabled invocation faults so; or both its fault and this one are of room, at one place, and the sum of this one has no
+-- room in this store either.
+pub record IsFaultOf (P : Parts) (S : Plain) (f : Failure) : Type 0 where
+  pub fault : Fault
+  pub faults : (outcome P S f.v).ran ≡ ran.Faulted fault
+  pub alike : (fault ≡ f.fault) ⊎ ((fault.at ≡ f.fault.at) × LacksRoom P S f.v f.fault.kind)
 
--- a body of the small form
-abbrev pub IsSmallBody : List Stat → Type 0
-IsSmallBody [] = Unit {0}
-IsSmallBody (stat.Print at parts ∷ stats) = ArePlainParts parts.items × IsSmallBody stats
-IsSmallBody (stat.Exit changes ∷ stats) = IsFlagExit changes.items × IsSmallBody stats
-IsSmallBody _ = ⊥
+-- Everything that is enabled faults, and these are all of it, in order, each with its fault.
+pub record IsEnd (P : Parts) (S : Plain) (failures : List Failure) : Type 0 where
+  pub quiet : IsQuiet P S
+  pub all : map (λ f. f.v) failures ≡ all_enabled P S
+  pub faults : All (IsFaultOf P S) failures
 
--- a task of the small form that prints at most 65,536 bytes
-pub record CanRun (t : Task) : Type 0 where
-  pub params : IsStartup t.params.items
-  pub variables : t.variables.items ≡ []
-  pub body : IsSmallBody t.body.items
-  pub short : length (text_of t.body.items) ≤ 65536
+-- What a stop says: all that is enabled faults; or no commit is left for an invocation that would commit; or one is left, but
+-- the invocation would leave too many enabled. Want of memory says nothing.
+abbrev pub Tells : Parts → ℕ → Plain → List Invocation → List Failure → Stop → Type 0
+Tells P limit S history failures stop.End = IsEnd P S failures
+Tells P limit S history failures (stop.Spent v) = (length history ≡ limit) × ((c : Changes) × Commits P S v c)
+Tells P limit S history failures (stop.Crowded v) =
+    (length history < limit) × ((c : Changes) × Commits P S v c × (is_crowded P (apply_changes S c) ≡ true))
+Tells P limit S history failures stop.Memory = Unit {0}
 
-abbrev pub AllCanRun : List Task → Type 0
-AllCanRun [] = Unit {0}
-AllCanRun (t ∷ ts) = CanRun t × AllCanRun ts
-
--- the invocation of a task on the startup object
-abbrev pub on_startup : ℕ → Invocation
-on_startup k = record { task = k; objects = 0 ∷ []; tags = [] }
-
--- the tasks from this one's turn on, round to the one before it
-abbrev pub turns_from : ℕ → ℕ → List ℕ
-turns_from n turn = range_with_len turn (n - turn) ++ range_with_len 0 turn
-
--- whose turn is next
-abbrev pub next_turn : ℕ → ℕ → ℕ
-next_turn n turn = if nat_lt (turn + 1) n then turn + 1 else 0
-
--- each task prints at most 65,536 bytes
-abbrev pub AllShort : List Task → Type 0
-AllShort [] = Unit {0}
-AllShort (t ∷ ts) = (length (text_of t.body.items) ≤ 65536) × AllShort ts
-
--- the fault of a task whose text has no room
-abbrev pub full_failure : List Task → ℕ → Failure
-full_failure tasks k = record { v = on_startup k; fault = record { kind = fault.Output; at = place_of (slice_get tasks k) } }
-
--- the output keeps within its limit when the text of this task is added to so many bytes
-abbrev pub has_room : List Task → ℕ → ℕ → Bool
-has_room tasks written k = is_some_and (slice_get tasks k) (λ t. nat_le (written + length (text_of t.body.items)) 16777216)
-
--- A commit of the task whose turn it is.
-pub record Commits (tasks : List Task) (old new : Course) : Type 0 where
-  pub task : Task
-  pub here : slice_get tasks old.turn ≡ Some task
-  pub set : new.set ≡ unwrap_or (exit_of task.body.items) true
-  pub turn : new.turn ≡ next_turn (length tasks) old.turn
-  pub history : new.history ≡ old.history ++ on_startup old.turn ∷ []
-  pub output : new.output ≡ old.output ++ text_of task.body.items
-
--- At the limit of commits the first task in turn that has room would commit; where none has, every task fails.
-abbrev pub stop_of : Option ℕ → Stop
-stop_of None = stop.End
-stop_of (Some k) = stop.Spent (on_startup k)
-
-abbrev pub failed_of : List Task → Option ℕ → List Failure
-failed_of tasks None = map (full_failure tasks) (range_with_len 0 (length tasks))
-failed_of tasks (Some k) = []
-
-pub record EndsAtLimit (tasks : List Task) (turn written : ℕ) (s : Stop) (failed : List Failure) : Type 0 where
-  pub stop : s ≡ stop_of (find (has_room tasks written) (turns_from (length tasks) turn))
-  pub failures : failed ≡ failed_of tasks (find (has_room tasks written) (turns_from (length tasks) turn))
-
--- a run of the small form ends so
-abbrev pub IsSmallStop : Stop → Type 0
-IsSmallStop stop.End = Unit {0}
-IsSmallStop (stop.Spent v) = Unit {0}
-IsSmallStop (stop.Crowded v) = ⊥
-IsSmallStop stop.Memory = ⊥
-
--- the enabled invocations that fault in a store, with their faults
-abbrev pub failure_of : Invocation → Ran → Option Failure
-failure_of v (ran.Commit c) = None
-failure_of v (ran.Faulted f) = Some (record { v = v; fault = f })
-
-abbrev pub failures_in : Parts → Plain → List Failure
-failures_in P S = filter_map (λ v. failure_of v (outcome P S v).ran) (all_enabled P S)
-
--- The run of a program on no input has ended so: it is the serial run, the history replays to its last store, whose
--- output this is, and at the end everything that is enabled faults, with these faults.
-pub record IsRunOf (P : Parts) (limit : ℕ) (committed : List Invocation) (s : Stop) (written : List ℕ) (failed : List Failure) : Type 0 where
-  pub course : SerialCourse
-  pub serial : IsSerialRun P [] limit course s
-  pub history : course.history ≡ committed
-  pub output : course.store.output ≡ written
-  pub replayed : replay P [] committed ≡ Some course.store
-  pub quiet : s ≡ stop.End → IsQuiet P course.store × (failed ≡ failures_in P course.store) × (length failed ≡ length (all_enabled P course.store))
+-- The run of a program on an input has come to this: the serial run has ended so, or memory was wanting on its way. The history
+-- replays to the last store, whose output this is, and the stop tells the truth.
+pub record IsRunOf (P : Parts) (input : List ℕ) (limit : ℕ) (history : List Invocation) (s : Stop) (output : List ℕ) (failures : List Failure) : Type 0 where
+  pub steps : ℕ
+  pub course : Course
+  pub reached : serial_steps P limit steps (course_at_start P input) ≡ course
+  pub committed : course.history ≡ history
+  pub written : course.store.output ≡ output
+  pub failed : ordered course.failures ≡ failures
+  pub ended : s ≡ stop_of course.ended
+  pub replayed : replay P input history ≡ Some course.store
+  pub tells : Tells P limit course.store history failures s

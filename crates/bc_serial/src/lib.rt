@@ -1,4 +1,7 @@
-//! The serial run of a small program on one thread.
+//! The run of one thread.
 #![tactic(auto)]
 
-pub mod run;
+pub mod finish;
+pub mod laws;
+mod machine;
+mod turn;

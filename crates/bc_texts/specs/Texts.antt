@@ -10,7 +10,7 @@ use Rattle.bc_data.specs.declared.run.FaultKind.TheVariants as fault
 use Rattle.bc_data.specs.declared.run.Place.{Place}
 use Rattle.bc_data.specs.declared.run.Stop.{Stop}
 use Rattle.bc_data.specs.declared.run.Stop.TheVariants as stop
-use Rattle.bc_serial.specs.declared.run.Failure.{Failure}
+use Rattle.bc_failed.specs.declared.entry.Failure.{Failure}
 use Rattle.bc_texts.specs.declared.refused.RefusedKind.{RefusedKind}
 use Rattle.bc_texts.specs.declared.refused.RefusedKind.TheVariants as refused
 

@@ -1,16 +1,16 @@
 // The texts that the program writes beside a program's output.
 
-ghost use Rattle.std.specs.Prelude.{◌≡◌, ℕ, [], ◌++◌, length, take, slice_get, IfOk, OnOk};
+ghost use Rattle.std.specs.Prelude.{◌≡◌, ℕ, [], ◌++◌, slice_get, IfOk, OnOk};
 ghost use Rattle.std.specs.List.{flat_map};
 ghost use Rattle.std.specs.Fmt.{decimal};
-ghost use Rattle.bc_texts.specs.Texts.{kind_name, joined, behind_comma, tags_text, task_name, invocation_text, place_text, failure_line, end_line, end_text, spent_text, refused_name, refused_text, ok_text};
+ghost use Rattle.bc_texts.specs.Texts.{kind_name, joined, behind_comma, tags_text, task_name, invocation_text, place_text, failure_line, end_line, spent_text, crowded_text, memory_text, refused_name, refused_text, ok_text};
 
 use crate::refused::RefusedKind;
 use bc_data::list::Bytes;
 use bc_data::program::{Program, Task};
 use bc_data::run::{FaultKind, Invocation, Place};
 use bc_data::text::natural;
-use bc_serial::run::Failure;
+use bc_failed::entry::Failure;
 use std::alloc::{AllocError, Global};
 
 /// The name of a kind of fault.
@@ -136,41 +136,31 @@ fn push_failures(
     Ok(())
 }
 
-// At most the first 20.
-fn first_20(failures: &[Failure]) -> &[Failure]
-    ensures { result.now ≡ take 20 failures.now }
-{
-    if failures.len() > 20 {
-        &failures[..20]
-    } else {
-        failures
-    }
-}
-
 // The line that counts what was committed and what fails.
-fn end_line(alloc: Global, committed: usize, failed: usize) -> Result<Bytes, AllocError>
+fn end_line(alloc: Global, committed: usize, failed: u32) -> Result<Bytes, AllocError>
     ensures { IfOk result (λ text. text ≡ end_line committed failed) }
 {
     let mut text = Bytes::from_slice(alloc, b"end: ")?;
     push_number(&mut text, alloc, committed as u64)?;
     text.extend_from_slice(b" committed, ")?;
-    push_number(&mut text, alloc, failed as u64)?;
+    push_number(&mut text, alloc, u64::from(failed))?;
     text.extend_from_slice(b" failed")?;
     text.push(b'\n')?;
     Ok(text)
 }
 
-/// The text at the end of a run, with the lines of the first 20 failures.
+/// The text at the end of a run: how many invocations it committed, how many fail, and a line for each of these failures.
 pub fn end_text(
     alloc: Global,
     program: &Program,
     committed: usize,
-    failures: &[Failure],
+    failed: u32,
+    told: &[Failure],
 ) -> Result<Bytes, AllocError>
-    ensures { IfOk result (λ text. text ≡ end_text program.now committed failures.now) }
+    ensures { IfOk result (λ text. text ≡ end_line committed failed ++ flat_map (failure_line program.now) told.now) }
 {
-    let mut text = end_line(alloc, committed, failures.len())?;
-    push_failures(&mut text, alloc, program, first_20(failures))?;
+    let mut text = end_line(alloc, committed, failed)?;
+    push_failures(&mut text, alloc, program, told)?;
     Ok(text)
 }
 
@@ -183,6 +173,24 @@ pub fn spent_text(alloc: Global, committed: usize) -> Result<Bytes, AllocError>
     text.extend_from_slice(b" committed")?;
     text.push(b'\n')?;
     Ok(text)
+}
+
+/// The text where a commit would leave too many invocations enabled.
+pub fn crowded_text(alloc: Global, committed: usize) -> Result<Bytes, AllocError>
+    ensures { IfOk result (λ text. text ≡ crowded_text committed) }
+{
+    let mut text = Bytes::from_slice(alloc, b"crowded: ")?;
+    push_number(&mut text, alloc, committed as u64)?;
+    text.extend_from_slice(b" committed, over 262144 enabled")?;
+    text.push(b'\n')?;
+    Ok(text)
+}
+
+/// The text for want of memory. It takes none.
+pub fn memory_text() -> &'static [u8]
+    ensures { result.now ≡ memory_text }
+{
+    b"memory\n"
 }
 
 // The name of a kind of refusal.

@@ -34,7 +34,7 @@ accepts words x z n h a c serial number =
     ∙ ap (λ w. w ∷ get_or words 1 [] ∷ get_or words 2 z ∷ []) (sym a ∙ serial)
     ∙ ap (λ w. codes "serial" ∷ get_or words 1 [] ∷ w ∷ []) (sym c ∙ number)
 
-pub refuses : (words : List (List ℕ)) (z : List ℕ) (n : ℕ) → z ≡ get_or words 2 z → z ≡ decimal n → n < 2 ^ 64 → n < 1 ⊎ 256 < n → IsNoSerial words
+pub refuses : (words : List (List ℕ)) (z : List ℕ) (n : ℕ) → z ≡ get_or words 2 z → z ≡ decimal n → n < 2 ^ 64 → n < 1 ⊎ 1000000 < n → IsNoSerial words
 refuses words z n c number fits out m file is =
     let third : get_or words 2 z ≡ decimal m = ap (λ ws. get_or ws 2 z) is.0 in
     let same : n ≡ m = decimal_injective n m fits (omega arith) (sym number ∙ c ∙ third) in

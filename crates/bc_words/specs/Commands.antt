@@ -12,17 +12,14 @@ words_of command.Check file = codes "check" ∷ file ∷ []
 words_of command.Code file = codes "code" ∷ file ∷ []
 
 abbrev pub IsInRange : Command → Type 0
-IsInRange (command.Serial commits) = (1 ≤ commits) × (commits ≤ 256)
+IsInRange (command.Serial commits) = (1 ≤ commits) × (commits ≤ 1000000)
 IsInRange command.Show = Unit {0}
 IsInRange command.Check = Unit {0}
 IsInRange command.Code = Unit {0}
 
--- how many bytes the file may have
-abbrev pub file_limit : Command → ℕ
-file_limit (command.Serial commits) = 65536
-file_limit command.Show = 1048576
-file_limit command.Check = 1048576
-file_limit command.Code = 1048576
+-- how many bytes a command's file may have
+abbrev pub file_limit : ℕ
+file_limit = 1048576
 
 -- the words are the command's on that file, with its numbers in their range
 abbrev pub IsCommand : List (List ℕ) → Command → List ℕ → Type 0

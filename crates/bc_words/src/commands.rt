@@ -10,14 +10,14 @@ use bc_data::text::read_decimal;
 /// A command without the name of its file: `serial` with its limit of commits, `show`, `check` or `code`.
 #[derive(Clone, Copy, Debug, PartialEq, Eq)]
 pub enum Command {
-    Serial(u64),
+    Serial(u32),
     Show,
     Check,
     Code,
 }
 
-// The limit of commits, where the words are `serial FILE COMMITS` with COMMITS from 1 to 256.
-fn serial_commits(words: &[Bytes]) -> Option<u64>
+// The limit of commits, where the words are `serial FILE COMMITS` with COMMITS from 1 to 1,000,000.
+fn serial_commits(words: &[Bytes]) -> Option<u32>
     ensures three { IfSome result (λ _. length words.now ≡ 3) }
     ensures command { IfSome result (λ n. IsCommand words.now (Command.Serial n) (slice_index_or words.now 1 [])) }
     ensures none { IfNone result (IsNoSerial words.now) }
@@ -29,8 +29,8 @@ fn serial_commits(words: &[Bytes]) -> Option<u64>
         return None;
     }
     let limit = read_decimal(commits.as_slice())?;
-    if limit >= 1 && limit <= 256 {
-        Some(limit)
+    if limit >= 1 && limit <= 1_000_000 {
+        Some(limit as u32)
     } else {
         None
     }

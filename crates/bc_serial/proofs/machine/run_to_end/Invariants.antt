@@ -1,0 +1,12 @@
+use Rattle.std.proofs.Common.{◌≡◌, ◌≤◌, length}
+use Rattle.bc_machine.specs.Running.{IsRunning}
+use Rattle.bc_serial.proofs.machine.run_to_end.Given as goal
+
+-- Each turn gave another body of the store.
+abbrev pub invariant-loop : goal.invariant-loop
+invariant-loop l = record {
+  invocation : l.machine.area.invocation ≡ l.fn.machine.area.invocation;
+  running : IsRunning l.book.program l.book.store l.code l.machine;
+  given : l.counter ≤ length l.machine.area.held;
+  few : l.counter ≤ length l.book.store.bodies;
+}

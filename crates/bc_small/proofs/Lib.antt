@@ -1,5 +1,0 @@
-pub mod SmallLex
-pub mod SmallLoop
-pub mod SmallTokens
-pub mod SmallLaws
-pub mod SmallTyped

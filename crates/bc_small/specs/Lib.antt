@@ -1,3 +1,0 @@
-pub mod Small
-pub mod SmallText
-pub mod SmallReading
