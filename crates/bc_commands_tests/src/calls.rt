@@ -46,6 +46,11 @@ pub fn sound<'a>(file: &'a str, input: &'a [u8]) -> Setting<'a> {
     }
 }
 
+/// So many bytes, each a space.
+pub fn spaces(alloc: Global, len: usize) -> Result<Vec<u8>, Fail> {
+    Ok(vec![in alloc; b' '; len]?)
+}
+
 fn words(alloc: Global, all: &[&str]) -> Result<List<Bytes>, Fail> {
     let mut words = List::new(alloc);
     for word in all {

@@ -1,6 +1,6 @@
 // The top call over objects in memory: words, files and inputs that it refuses, and objects that fail.
 
-use crate::calls::{Setting, Told, call_with, expect, sound};
+use crate::calls::{Setting, Told, call_with, expect, sound, spaces};
 use bc_data::run::Stop;
 use std::alloc::Global;
 use std::process::Abort;
@@ -86,9 +86,9 @@ fn refuses_texts_before_inputs(rt: HostRuntime) -> Result<(), Fail> {
 }
 
 #[test]
-fn keeps_the_limits_of_files_and_inputs(rt: HostRuntime) -> Result<(), Fail> {
+fn keeps_the_limit_of_files(rt: HostRuntime) -> Result<(), Fail> {
     let alloc = rt.alloc();
-    let long = vec![in alloc; b' '; 1_048_577]?;
+    let long = spaces(alloc, 1_048_577)?;
     let told = serial(
         alloc,
         Setting {
@@ -97,18 +97,27 @@ fn keeps_the_limits_of_files_and_inputs(rt: HostRuntime) -> Result<(), Fail> {
         },
     )?;
     expect(&rt, &told, 8, "", "too long\n");
+    let fits = spaces(alloc, 1_048_576)?;
     let told = serial(
         alloc,
         Setting {
-            file: &long[..1_048_576],
+            file: &fits,
             ..sound("", b"")
         },
     )?;
     expect(&rt, &told, 0, "", "end: 0 committed, 0 failed\n");
-    let told = serial(alloc, sound(LENGTH, &long[..65_537]))?;
+    Ok(())
+}
+
+#[test]
+fn keeps_the_limit_of_inputs(rt: HostRuntime) -> Result<(), Fail> {
+    let alloc = rt.alloc();
+    let long = spaces(alloc, 65_537)?;
+    let told = serial(alloc, sound(LENGTH, &long))?;
     expect(&rt, &told, 8, "", "too long\n");
     assert_eq!(rt; told.report.stop, None);
-    let told = serial(alloc, sound(LENGTH, &long[..65_536]))?;
+    let fits = spaces(alloc, 65_536)?;
+    let told = serial(alloc, sound(LENGTH, &fits))?;
     expect(&rt, &told, 0, "65536", "end: 1 committed, 0 failed\n");
     Ok(())
 }

@@ -1,6 +1,6 @@
 // The top call over objects in memory: `show`.
 
-use crate::calls::{call, expect};
+use crate::calls::{call, expect, spaces};
 use bc_data::list::{Bytes, List};
 use std::alloc::Global;
 use std::process::Abort;
@@ -82,10 +82,6 @@ fn tells_where_a_text_is_too_deep(rt: HostRuntime) -> Result<(), Fail> {
     expect_refused(&rt, alloc, deep.as_slice(), "refused: TooDeep at 2:74\n")?;
     let cut = nested(alloc, 63)?;
     expect_refused(&rt, alloc, cut.as_slice(), "refused: Unexpected at 2:74\n")
-}
-
-fn spaces(alloc: Global, len: usize) -> Result<Vec<u8>, Fail> {
-    Ok(vec![in alloc; b' '; len]?)
 }
 
 #[test]
