@@ -1,3 +1,4 @@
 pub mod Records
 pub mod Ordered
 pub mod Laws
+pub mod Touched

@@ -49,6 +49,13 @@ impl Record {
         self.touched.as_slice().contains(&id)
     }
 
+    /// The objects that it touched.
+    pub(crate) fn touched(&self) -> &[u32]
+        ensures { result.now ≡ self.now.touched }
+    {
+        self.touched.as_slice()
+    }
+
     /// Whether it is of this invocation.
     pub fn is_of(&self, v: &Invocation) -> bool
         ensures { result ≡ same_invocation v.now self.now.v }

@@ -11,6 +11,7 @@ use crate::order::{all_ordered, drop_in, invocations, touching_ordered};
 use bc_data::list::List;
 use bc_data::run::{Fault, Invocation};
 use bc_steps::Steps;
+use bc_tally::tally::Tally;
 use std::alloc::{AllocError, Global};
 use std::marker::Model;
 use std::sync::ledger::Ledger;
@@ -20,18 +21,25 @@ use std::sync::ledger::Ledger;
 #[derive(Drop)]
 pub struct Failures {
     items: Vec<Record>,
+    /// How often each object was touched, so that there is no search for one that none touched.
+    named: Tally,
 }
 
 impl Model for Failures {
     ghost use Rattle.std.specs.Prelude.{◌-◌, ◌≤◌, vec_len, vec_capacity};
+    ghost use Rattle.bc_tally.specs.Counts.{Counts};
     ghost use Rattle.bc_failed.specs.Records.{Records};
+    ghost use Rattle.bc_failed.specs.Touched.{touched_in};
 
     ghost Value = { Records };
 
     ghost view = { λ f. record { failures = f.items.items; spare = vec_capacity f.items - vec_len f.items } };
 
-    ghost invariant = { λ f. vec_len f.items ≤ 262144 };
+    ghost invariant = { λ f. (vec_len f.items ≤ 262144) × Counts f.named (touched_in f.items.items) };
 }
+
+/// The objects that are counted are below this.
+const OBJECTS: u32 = 65_536;
 
 fn push_in(items: &mut Vec<Record>, entry: Record)
     requires { vec_len items.old + 1 ≤ vec_capacity items.old }
@@ -47,8 +55,10 @@ impl Failures {
     pub fn make(alloc: Global) -> Result<Self, AllocError>
         ensures { IfOk result (λ f. f.failures ≡ []) }
     {
+        let named = Tally::make(alloc, OBJECTS)?;
         Ok(Failures {
             items: Vec::new(alloc),
+            named,
         })
     }
 
@@ -72,13 +82,24 @@ impl Failures {
         ensures failures { self.new.failures ≡ self.old.failures ++ record { v = v; fault = fault; touched = touched } ∷ [] }
         ensures spare { self.old.spare ≤ self.new.spare + length touched }
     {
+        self.named.add(touched.as_slice());
         push_in(&mut self.items, Record::new(v, fault, touched));
+    }
+
+    /// Whether the counts say that no failure touched the object.
+    fn none_touched(&self, id: u32) -> bool
+        ensures { result ≡ true → count_by (touches id) self.now.failures ≡ 0 }
+    {
+        self.named.is_none(id)
     }
 
     /// The invocations whose failure touched the object, ascending.
     pub fn touching(&self, alloc: Global, id: u32) -> Result<List<Invocation>, AllocError>
         ensures { IfOk result (λ vs. vs ≡ map (λ f. f.v) (ordered (filter (touches id) self.now.failures))) }
     {
+        if self.none_touched(id) {
+            return Ok(List::new(alloc));
+        }
         let found = touching_ordered(alloc, self.items.as_slice(), id)?;
         Ok(List::from_vec(invocations(alloc, found.as_slice())?))
     }
@@ -89,7 +110,10 @@ impl Failures {
         ensures spare { self.old.spare ≤ self.new.spare }
         ensures steps { steps.new ≡ steps.old + count_by (touches id) self.old.failures }
     {
-        drop_in(&mut self.items, id, steps);
+        if self.none_touched(id) {
+            return;
+        }
+        drop_in(&mut self.items, &mut self.named, id, steps);
     }
 
     /// Whether there is a failure of this invocation.

@@ -1,13 +1,16 @@
 // Failures in the order of invocations.
 
-ghost use Rattle.std.specs.Prelude.{◌≡◌, ◌+◌, ◌≤◌, filter, map, count_by, vec_len, vec_capacity, OnOk, IfOk};
+ghost use Rattle.std.specs.Prelude.{◌≡◌, ℕ, ◌+◌, ◌≤◌, List, ◌++◌, filter, map, count_by, vec_len, vec_capacity, OnOk, IfOk, if◌then◌else◌};
 ghost use Rattle.bc_mean.specs.Orders.{invocation_cmp};
+ghost use Rattle.bc_tally.specs.Counts.{Counts};
 ghost use Rattle.bc_failed.specs.Records.{touches, leaves};
 ghost use Rattle.bc_failed.specs.Ordered.{failure_of, in_order, ordered};
+ghost use Rattle.bc_failed.specs.Touched.{touched_in};
 
 use crate::entry::{Failure, Record};
 use bc_data::run::Invocation;
 use bc_steps::Steps;
+use bc_tally::tally::Tally;
 use std::alloc::{AllocError, Global};
 use std::cmp::Ordering;
 use std::sync::ledger::Ledger;
@@ -66,16 +69,31 @@ pub fn touching_ordered(
     Ok(found)
 }
 
-/// Leaves those that didn't touch the object, in order.
-pub fn drop_in<L: Ledger>(items: &mut Vec<Record>, id: u32, steps: &mut Steps<L>)
+/// Whether it stays. The objects of one that goes are taken out of the counts.
+fn is_left<L: Ledger>(entry: &Record, id: u32, named: &mut Tally, steps: &mut Steps<L>) -> bool
+    ensures value { result ≡ leaves id entry.now }
+    ensures named { (before after : List ℕ) → Counts named.old (before ++ (entry.now.touched ++ after)) → Counts named.new (before ++ (if touches id entry.now then after else entry.now.touched ++ after)) }
+    ensures steps { steps.new ≡ (if touches id entry.now then steps.old + 1 else steps.old) }
+{
+    let stays = entry.stays(id, steps);
+    if !stays {
+        named.remove(entry.touched());
+    }
+    stays
+}
+
+/// Leaves those that didn't touch the object, in order, and in the counts what those touched.
+pub fn drop_in<L: Ledger>(items: &mut Vec<Record>, named: &mut Tally, id: u32, steps: &mut Steps<L>)
+    requires { Counts named.old (touched_in items.old.items) }
     ensures items { items.new.items ≡ filter (leaves id) items.old.items }
+    ensures named { Counts named.new (touched_in items.new.items) }
     ensures len { vec_len items.new ≤ vec_len items.old }
     ensures capacity { vec_capacity items.new ≡ vec_capacity items.old }
     ensures steps { steps.new ≡ steps.old + count_by (touches id) items.old.items }
 {
     let mut kept = 0;
     for at in 0..items.len() {
-        if items[at].stays(id, steps) {
+        if is_left(&items[at], id, named, steps) {
             items.swap(kept, at);
             kept += 1;
         }

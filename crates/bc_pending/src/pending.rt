@@ -8,32 +8,42 @@ ghost use Rattle.bc_pending.specs.Lists.{Moves, HasObjects, held_by, is_held, is
 
 use crate::keep::Keep;
 use crate::search::{
-    any_same, extend_in, held_count, keep_in, place_of_allowed, place_of_same, push_in,
+    any_same, extend_in, held_count, keep_in, place_of_allowed, place_of_same, push_in, remove_in,
 };
 use bc_data::list::List;
 use bc_data::run::Invocation;
 use bc_data::task_set::TaskSet;
 use bc_steps::Steps;
+use bc_tally::tally::Tally;
 use std::alloc::{AllocError, Global};
+use std::collections::VecDeque;
 use std::marker::Model;
 use std::sync::ledger::Ledger;
 
-/// A list of invocations and, for each worker, the one that it holds or none. One that is held keeps its room.
+/// The number of objects that are counted.
+const OBJECTS: u32 = 65536;
+
+/// A list of invocations and, for each worker, the one that it holds or none. One that is held keeps its room. How often
+/// the listed ones name each object is counted, so that an object that none names is known at once.
 #[derive(Drop)]
 pub struct Pending {
-    items: Vec<Invocation>,
+    items: VecDeque<Invocation>,
     slots: Vec<Option<Invocation>>,
+    named: Tally,
 }
 
 impl Model for Pending {
-    ghost use Rattle.std.specs.Prelude.{◌+◌, ◌-◌, ◌≤◌, count_by, is_some, vec_len, vec_capacity};
+    ghost use Rattle.std.specs.Prelude.{◌+◌, ◌-◌, ◌≤◌, count_by, is_some};
+    ghost use Rattle.std.specs.VecDeque.{deque_len, deque_capacity};
+    ghost use Rattle.bc_tally.specs.Counts.{Counts};
     ghost use Rattle.bc_pending.specs.Lists.{Lists};
+    ghost use Rattle.bc_pending.specs.Named.{named_in};
 
     ghost Value = { Lists };
 
-    ghost view = { λ p. record { listed = p.items.items; held = p.slots.items; spare = vec_capacity p.items - (vec_len p.items + count_by is_some p.slots.items) } };
+    ghost view = { λ p. record { listed = p.items.items; held = p.slots.items; spare = deque_capacity p.items - (deque_len p.items + count_by is_some p.slots.items) } };
 
-    ghost invariant = { λ p. vec_len p.items + count_by is_some p.slots.items ≤ vec_capacity p.items };
+    ghost invariant = { λ p. (deque_len p.items + count_by is_some p.slots.items ≤ deque_capacity p.items) × Counts p.named (named_in p.items.items) };
 }
 
 /// Empty slots for this many workers.
@@ -56,8 +66,9 @@ impl Pending {
     {
         let slots = empty_slots(alloc, workers)?;
         Ok(Pending {
-            items: Vec::new(alloc),
+            items: VecDeque::new(alloc),
             slots,
+            named: Tally::make(alloc, OBJECTS)?,
         })
     }
 
@@ -84,8 +95,7 @@ impl Pending {
         ensures held { self.new.held ≡ slice_set self.old.held worker (slice_get self.old.listed at) }
         ensures spare { self.old.spare ≤ self.new.spare }
     {
-        let taken = self.items.remove(at);
-        self.slots[worker as usize] = Some(taken);
+        self.slots[worker as usize] = remove_in(&mut self.items, &mut self.named, at);
     }
 
     /// Moves the first listed one of an allowed task to the worker. `None` exactly where no listed one is of an
@@ -97,7 +107,7 @@ impl Pending {
         ensures none { IfNone result (list_any (is_allowed tasks.now) self.old.listed ≡ false) }
         ensures unchanged { IfNone result (self.new ≡ self.old) }
     {
-        let Some(at) = place_of_allowed(self.items.as_slice(), tasks) else {
+        let Some(at) = place_of_allowed(&self.items, tasks) else {
             return None;
         };
         self.move_to(at, worker);
@@ -112,7 +122,7 @@ impl Pending {
         ensures taken { result ≡ true → Moves (same_invocation v) worker v self.old self.new }
         ensures unchanged { result ≡ false → self.new ≡ self.old }
     {
-        let Some(at) = place_of_same(self.items.as_slice(), &v) else {
+        let Some(at) = place_of_same(&self.items, &v) else {
             return false;
         };
         self.move_to(at, worker);
@@ -131,7 +141,7 @@ impl Pending {
     pub fn has(&self, v: Invocation) -> bool
         ensures { result ≡ listed self.now.listed v }
     {
-        any_same(self.items.as_slice(), &v)
+        any_same(&self.items, &v)
     }
 
     /// How many are listed.
@@ -159,7 +169,7 @@ impl Pending {
         let slot = worker as usize;
         if let Some(v) = self.slots[slot] {
             self.slots[slot] = None;
-            push_in(&mut self.items, v);
+            push_in(&mut self.items, &mut self.named, v);
         }
     }
 
@@ -182,7 +192,10 @@ impl Pending {
         ensures spare { self.old.spare ≤ self.new.spare }
         ensures steps { steps.new ≡ steps.old + count_by (names id) self.old.listed }
     {
-        keep_in(&mut self.items, id, test, steps);
+        if self.named.is_none(id) {
+            return;
+        }
+        keep_in(&mut self.items, &mut self.named, id, test, steps);
     }
 
     /// Appends these in order. There must be room for them. It takes no memory.
@@ -196,6 +209,6 @@ impl Pending {
         ensures held { self.new.held ≡ self.old.held }
         ensures spare { self.old.spare ≤ self.new.spare + length more.now }
     {
-        extend_in(&mut self.items, more.as_slice());
+        extend_in(&mut self.items, &mut self.named, more.as_slice());
     }
 }

@@ -99,3 +99,24 @@ fn drops_what_names_the_object(rt: HostRuntime) -> Result<(), Fail> {
     assert!(rt; pending.is_empty());
     Ok(())
 }
+
+#[test]
+fn drops_none_where_none_is_listed(rt: HostRuntime) -> Result<(), Fail> {
+    let mut pending = filled(rt.alloc())?;
+    assert!(rt; pending.take_this(0, one(1, 7)));
+    drop_counted::<Brand>(&mut pending, 7, &OfTask { task: 0 }, Blank::new(1));
+    assert_eq!(rt; pending.len(), 2);
+    assert_eq!(rt; pending.held(0), Some(one(1, 7)));
+    Ok(())
+}
+
+#[test]
+fn drops_what_was_put_back(rt: HostRuntime) -> Result<(), Fail> {
+    let mut pending = filled(rt.alloc())?;
+    assert!(rt; pending.take_this(0, one(1, 7)));
+    pending.put_back(0);
+    drop_counted::<Brand>(&mut pending, 7, &OfTask { task: 0 }, Blank::new(1));
+    assert_eq!(rt; pending.len(), 2);
+    assert!(rt; !pending.has(one(1, 7)));
+    Ok(())
+}

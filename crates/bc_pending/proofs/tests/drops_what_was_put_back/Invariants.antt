@@ -1,0 +1,4 @@
+use Rattle.bc_pending.proofs.tests.drops_what_was_put_back.Given as goal
+
+abbrev pub ghosts-drop_counted : goal.ghosts-drop_counted
+ghosts-drop_counted g a = record { name = a.blank.name; parts = a.blank.parts }
