@@ -1,6 +1,7 @@
 // The machine of one invocation.
 
 ghost use Rattle.std.specs.Prelude.{◌≡◌, ◌≤◌, ◌+◌, ◌==◌, [], ◌∷◌, ◌++◌, false, None, Some, slice_get, IfOk, OnOk};
+ghost use Rattle.std.specs.Borrow.{sem};
 ghost use Rattle.std.specs.List.{list_any};
 ghost use Rattle.bc_data.specs.Program.{Parts};
 ghost use Rattle.bc_mean.specs.declared.plain.Plain.{Plain};
@@ -49,6 +50,39 @@ impl Model for Machine {
 }
 
 impl Machine {
+    ghost use Rattle.bc_machine.specs.Lends.{LendsArea};
+
+    /// A machine that runs no invocation yet. It takes no memory.
+    pub fn idle(alloc: Global) -> Machine
+        ensures given { result.area.held ≡ [] }
+        ensures end { result.area.end ≡ None }
+    {
+        Machine {
+            state: State::idle(alloc),
+            area: Area::idle(alloc),
+        }
+    }
+
+    /// Goes to the start of another invocation, in the memory that the machine has; its own run is dropped. The bodies are those
+    /// of the invocation's objects, in their order. Fails for want of memory alone. After that the machine is of no use until it is
+    /// restarted.
+    pub fn restart(
+        &mut self,
+        code: &Code,
+        v: Invocation,
+        bodies: List<Body>,
+    ) -> Result<(), AllocError>
+        requires { CanStart code.now v bodies }
+        ensures running { OnOk result ((P : Parts) (S : Plain) → IsRunOf P S code.now v → AreBodiesOf S v.objects bodies → IsRunning P S code.now self.new) }
+        ensures invocation { OnOk result (self.new.area.invocation ≡ v) }
+        ensures given { OnOk result (ids_of (given_of self.new.area.held) ≡ v.objects) }
+        ensures end { OnOk result (self.new.area.end ≡ None) }
+    {
+        let named = &v;
+        self.state.restart(code, *named)?;
+        self.area.restart(v, bodies)
+    }
+
     /// The machine before the first instruction. The bodies are those of the invocation's objects, in their order. Fails for want
     /// of memory alone.
     pub fn start(
@@ -63,10 +97,9 @@ impl Machine {
         ensures given { IfOk result (λ m. ids_of (given_of m.area.held) ≡ v.objects) }
         ensures end { IfOk result (λ m. m.area.end ≡ None) }
     {
-        let named = &v;
-        let state = State::start(alloc, code, *named)?;
-        let area = Area::new(alloc, v, bodies)?;
-        Ok(Machine { state, area })
+        let mut machine = Machine::idle(alloc);
+        machine.restart(code, v, bodies)?;
+        Ok(machine)
     }
 
     /// Runs until it needs an object or ends. After want of memory a whole number of instructions is done, and it may be called
@@ -106,6 +139,14 @@ impl Machine {
         ensures { result.now ≡ self.now.area }
     {
         &self.area
+    }
+
+    /// The same, to be cleared once it was committed.
+    pub fn area_mut(&mut self) -> &mut Area
+        ensures* comes_back { sem 𝓛 (LendsArea self.entry result) }
+        ensures value { result.now ≡ self.old.area }
+    {
+        &mut self.area
     }
 
     /// The same, where the run isn't gone on with.

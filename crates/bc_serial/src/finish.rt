@@ -10,12 +10,13 @@ ghost use Rattle.bc_serial.specs.Run.{Finishes};
 use crate::turn::turn;
 use bc_book::book::Book;
 use bc_code::code::Code;
+use bc_machine::machine::Machine;
 use bc_steps::Steps;
 use std::alloc::{AllocError, Global};
 use std::marker::Brand;
 use std::sync::ledger::{Blank, Ledger};
 
-/// Makes turns until a stop is set. On `Err` memory was wanting, and the run is over once it is halted. Nobody asks for the
+/// Makes turns until a stop is set, all with one machine. On `Err` memory was wanting, and the run is over once it is halted. Nobody asks for the
 /// steps.
 fn turns<L: Ledger>(
     alloc: Global,
@@ -33,9 +34,10 @@ fn turns<L: Ledger>(
     ensures err { OnErr result (Finishes book.old (halt 0 book.new)) }
 {
     let mut steps = Steps::<L>::new(blank);
+    let mut machine = Machine::idle(alloc);
     book.is_sound();
     while book.stop().is_none() {
-        turn(alloc, book, code, &mut steps)?;
+        turn(alloc, book, code, &mut machine, &mut steps)?;
         book.is_sound();
     }
     Ok(())

@@ -9,7 +9,6 @@ use bc_code::code::Code;
 use bc_data::list::List;
 use bc_data::run::{Body, Invocation};
 use bc_machine::machine::{Ended, Going, Machine};
-use bc_machine::plain::Run;
 use std::alloc::{AllocError, Global};
 
 /// Gives a machine the bodies that it asks for, one by one, until the run ends. There are no more needs than bodies, since each
@@ -36,23 +35,21 @@ fn run_to_end(
     unreachable!()
 }
 
-/// Runs an invocation by its code over the store of the book, from which it takes the bodies that it asks for, one by one. The
-/// bodies of its objects it has from the start. The error is want of memory.
+/// Runs an invocation by its code over the store of the book, from which the machine takes the bodies that it asks for, one by
+/// one. The bodies of its objects it has from the start. What the machine did before is dropped, and its memory stays. The error
+/// is want of memory.
 pub fn run_over(
     alloc: Global,
     book: &Book,
     code: &Code,
     v: Invocation,
     bodies: List<Body>,
-) -> Result<Run, AllocError>
+    machine: &mut Machine,
+) -> Result<Ended, AllocError>
     requires run { IsRunOf book.now.program book.now.store code.now v }
     requires bodies { AreBodiesOf book.now.store v.objects bodies }
-    ensures { IfOk result (λ run. ComesTo book.now.program book.now.store v run.ended run.area) }
+    ensures { IfOk result (λ ended. ComesTo book.now.program book.now.store v ended machine.new.area) }
 {
-    let mut machine = Machine::start(alloc, code, v, bodies)?;
-    let ended = run_to_end(alloc, book, code, &mut machine)?;
-    Ok(Run {
-        ended,
-        area: machine.into_area(),
-    })
+    machine.restart(code, v, bodies)?;
+    run_to_end(alloc, book, code, machine)
 }

@@ -17,7 +17,7 @@ use bc_code::code::Code;
 use bc_data::run::Invocation;
 use bc_data::task_set::TaskSet;
 use bc_events::{Begun, Taken};
-use bc_machine::machine::Ended;
+use bc_machine::machine::{Ended, Machine};
 use bc_step::area::Area;
 use bc_steps::Steps;
 use std::alloc::{AllocError, Global};
@@ -56,6 +56,7 @@ fn run_taken<L: Ledger>(
     book: &mut Book,
     code: &Code,
     v: Invocation,
+    machine: &mut Machine,
     steps: &mut Steps<L>,
 ) -> Result<(), AllocError>
     requires code { Translates (view_program book.old.program) code.now }
@@ -68,8 +69,8 @@ fn run_taken<L: Ledger>(
     let Begun::Ready(bodies) = book.begin(alloc, 0)? else {
         unreachable!()
     };
-    let mut run = run_over(alloc, book, code, v, bodies)?;
-    end_run(alloc, book, run.ended, &mut run.area, steps)
+    let ended = run_over(alloc, book, code, v, bodies, machine)?;
+    end_run(alloc, book, ended, machine.area_mut(), steps)
 }
 
 /// Takes the first pending invocation, runs it, and commits it or records its failure; or the run ends, as nothing is pending.
@@ -78,6 +79,7 @@ pub fn turn<L: Ledger>(
     alloc: Global,
     book: &mut Book,
     code: &Code,
+    machine: &mut Machine,
     steps: &mut Steps<L>,
 ) -> Result<(), AllocError>
     requires code { Translates (view_program book.old.program) code.now }
@@ -90,5 +92,5 @@ pub fn turn<L: Ledger>(
     let Taken::Got(v) = book.take(0, &TaskSet::all()) else {
         return Ok(());
     };
-    run_taken(alloc, book, code, v, steps)
+    run_taken(alloc, book, code, v, machine, steps)
 }

@@ -12,6 +12,7 @@ ghost use Rattle.bc_step.specs.Area.{AgreesWith, FitsMask, HasNow, IsFresh, IsSa
 use crate::body::Edit;
 use crate::created::Created;
 use crate::held::Holdings;
+use bc_data::ids::Ids;
 use bc_data::list::{Bytes, List};
 use bc_data::run::{Body, Changes, Fault, Invocation};
 use std::alloc::{AllocError, Global};
@@ -58,21 +59,46 @@ impl Model for Area {
 }
 
 impl Area {
+    /// An invocation without objects, to which nothing is given. It takes no memory.
+    pub fn idle(alloc: Global) -> Self
+        ensures { IsFresh (record { task = 0; objects = []; tags = [] }) [] result }
+    {
+        Area {
+            invocation: Invocation {
+                task: 0,
+                objects: Ids::none(),
+                tags: Ids::none(),
+            },
+            holdings: Holdings::new(alloc),
+            created: Created::new(alloc),
+            instances: List::new(alloc),
+            text: Bytes::new(alloc),
+            end: None,
+        }
+    }
+
+    /// Goes to another invocation before its first instruction, in the memory that it has: the objects of its parameters are
+    /// given. After want of memory nothing is given.
+    pub fn restart(&mut self, v: Invocation, bodies: List<Body>) -> Result<(), AllocError>
+        requires different { are_different v.objects ≡ true }
+        requires each { length bodies ≡ length v.objects }
+        ensures ok { OnOk result (IsFresh v bodies self.new) }
+        ensures err { OnErr result (self.new.held ≡ []) }
+    {
+        self.clear();
+        self.invocation = v;
+        self.holdings.refill(v.objects.as_slice(), bodies)
+    }
+
     /// An invocation before its first instruction: the objects of its parameters are given.
     pub fn new(alloc: Global, v: Invocation, bodies: List<Body>) -> Result<Self, AllocError>
         requires different { are_different v.objects ≡ true }
         requires each { length bodies ≡ length v.objects }
         ensures { IfOk result (IsFresh v bodies) }
     {
-        let holdings = Holdings::new(alloc, v.objects.as_slice(), bodies)?;
-        Ok(Area {
-            invocation: v,
-            holdings,
-            created: Created::new(alloc),
-            instances: List::new(alloc),
-            text: Bytes::new(alloc),
-            end: None,
-        })
+        let mut area = Area::idle(alloc);
+        area.restart(v, bodies)?;
+        Ok(area)
     }
 
     /// Whether the object was given.

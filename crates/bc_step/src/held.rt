@@ -91,26 +91,40 @@ impl Given {
     }
 }
 
-/// A set of different numbers, in their order.
-fn set_of(alloc: Global, objects: &[u32]) -> Result<IndexSet<u32>, AllocError>
-    requires { are_different objects.now ≡ true }
-    ensures { IfOk result (λ ids. ids.keys ≡ objects.now) }
+/// Inserts different numbers into an empty set, in their order.
+fn insert_all(ids: &mut IndexSet<u32>, objects: &[u32]) -> Result<(), AllocError>
+    requires empty { ids.old.keys ≡ [] }
+    requires different { are_different objects.now ≡ true }
+    ensures { OnOk result (ids.new.keys ≡ objects.now) }
 {
-    let mut ids = IndexSet::new(alloc);
     for id in objects {
         ids.insert(*id)?;
     }
-    Ok(ids)
+    Ok(())
 }
 
-/// Bodies before their first writes.
-fn unwritten(alloc: Global, bodies: List<Body>) -> Result<Vec<Given>, AllocError>
-    ensures { IfOk result (λ given. given.items ≡ map unwritten bodies) }
+/// Appends bodies before their first writes.
+fn push_unwritten(given: &mut Vec<Given>, bodies: List<Body>) -> Result<(), AllocError>
+    ensures { OnOk result (given.new.items ≡ given.old.items ++ map unwritten bodies) }
 {
-    bodies
-        .into_iter()
-        .map(|body| Given { body, copy: None })
-        .collect(alloc)
+    given.extend(bodies.into_iter().map(|body| Given { body, copy: None }))
+}
+
+/// Puts these objects with these bodies in the place of all.
+fn fill(
+    ids: &mut IndexSet<u32>,
+    given: &mut Vec<Given>,
+    objects: &[u32],
+    bodies: List<Body>,
+) -> Result<(), AllocError>
+    requires { are_different objects.now ≡ true }
+    ensures ids { OnOk result (ids.new.keys ≡ objects.now) }
+    ensures given { OnOk result (given.new.items ≡ map unwritten bodies) }
+{
+    ids.clear();
+    given.clear();
+    insert_all(ids, objects)?;
+    push_unwritten(given, bodies)
 }
 
 /// The one of this number, if it was given.
@@ -199,15 +213,31 @@ fn written_of(
 }
 
 impl Holdings {
-    /// These objects with these bodies.
-    pub fn new(alloc: Global, objects: &[u32], bodies: List<Body>) -> Result<Self, AllocError>
+    /// None. It takes no memory.
+    pub fn new(alloc: Global) -> Self
+        ensures { result.held ≡ [] }
+    {
+        Holdings {
+            ids: IndexSet::new(alloc),
+            given: Vec::new(alloc),
+        }
+    }
+
+    /// Puts these objects with these bodies in the place of all, in the memory that there is. On `Err` there are none.
+    pub fn refill(&mut self, objects: &[u32], bodies: List<Body>) -> Result<(), AllocError>
         requires different { are_different objects.now ≡ true }
         requires each { length bodies ≡ length objects.now }
-        ensures { IfOk result (λ h. h.held ≡ with_id objects.now bodies) }
+        ensures ok { OnOk result (self.new.held ≡ with_id objects.now bodies) }
+        ensures err { OnErr result (self.new.held ≡ []) }
     {
-        let ids = set_of(alloc, objects)?;
-        let given = unwritten(alloc, bodies)?;
-        Ok(Holdings { ids, given })
+        match fill(&mut self.ids, &mut self.given, objects, bodies) {
+            Ok(()) => Ok(()),
+            Err(error) => {
+                self.ids.clear();
+                self.given.clear();
+                Err(error)
+            }
+        }
     }
 
     /// Whether the object was given.

@@ -1,11 +1,11 @@
 // The slots and tag variables of a new call.
 
-ghost use Rattle.std.specs.Prelude.{◌≡◌, ◌-◌, ◌^◌, ◌<◌, ◌∷◌, ◌++◌, pos, length, replicate, take, map, IfOk, OnOk, OnErr};
+ghost use Rattle.std.specs.Prelude.{◌≡◌, ◌-◌, ◌^◌, ◌<◌, ◌∷◌, ◌++◌, pos, length, replicate, take, map, OnOk, OnErr};
 ghost use Rattle.bc_data.specs.declared.run.Value.TheVariants as value;
 ghost use Rattle.bc_data.specs.declared.run.TagRef.TheVariants as tag;
 
 use bc_data::run::{TagRef, Value};
-use std::alloc::{AllocError, Global};
+use std::alloc::AllocError;
 
 /// So many more elements of one value. On `Err` the list is as it was.
 #[inline]
@@ -59,16 +59,16 @@ pub(crate) fn fill(
     }
 }
 
-/// The objects of the store with these numbers.
-pub(crate) fn old_values(alloc: Global, ids: &[u32]) -> Result<Vec<Value>, AllocError>
-    ensures { IfOk result (λ v. v.items ≡ map value.Old ids.now) }
+/// Appends the objects of the store with these numbers.
+pub(crate) fn push_objects(slots: &mut Vec<Value>, ids: &[u32]) -> Result<(), AllocError>
+    ensures { OnOk result (slots.new.items ≡ slots.old.items ++ map value.Old ids.now) }
 {
-    ids.iter().map(|id| Value::Old(*id)).collect(alloc)
+    slots.extend(ids.iter().map(|id| Value::Old(*id)))
 }
 
-/// The tag instances of the store with these numbers.
-pub(crate) fn old_tags(alloc: Global, ids: &[u32]) -> Result<Vec<TagRef>, AllocError>
-    ensures { IfOk result (λ v. v.items ≡ map tag.Old ids.now) }
+/// Appends the tag instances of the store with these numbers.
+pub(crate) fn push_tags(tags: &mut Vec<TagRef>, ids: &[u32]) -> Result<(), AllocError>
+    ensures { OnOk result (tags.new.items ≡ tags.old.items ++ map tag.Old ids.now) }
 {
-    ids.iter().map(|id| TagRef::Old(*id)).collect(alloc)
+    tags.extend(ids.iter().map(|id| TagRef::Old(*id)))
 }

@@ -1,6 +1,6 @@
 // The state of the machine: calls, slots and a stack of values.
 
-ghost use Rattle.std.specs.Prelude.{◌≡◌, [], List, slice_get, Some, IfOk};
+ghost use Rattle.std.specs.Prelude.{◌≡◌, [], List, slice_get, Some, IfOk, OnOk};
 ghost use Rattle.bc_data.specs.declared.run.Body.{Body};
 ghost use Rattle.bc_mean.specs.Execute.{most_turns};
 ghost use Rattle.bc_code.specs.declared.code.Unit.{Unit as CodeUnit};
@@ -9,7 +9,7 @@ ghost use Rattle.bc_code.specs.Instructions as rules;
 ghost use Rattle.bc_step.specs.Area.{AreaParts, IsFresh};
 ghost use Rattle.bc_step.specs.State.{state_with};
 
-use crate::slots::{old_tags, old_values, pad};
+use crate::slots::{pad, push_objects, push_tags};
 use bc_code::code::Code;
 use bc_data::run::{Fault, Invocation, TagRef, Value};
 use std::alloc::{AllocError, Global};
@@ -52,31 +52,63 @@ fn most_turns() -> u32
 }
 
 impl State {
-    /// The state before the first instruction of an invocation: its parameters are the first slots and tag variables of its task.
-    pub fn start(alloc: Global, code: &Code, v: Invocation) -> Result<State, AllocError>
-        requires { (unit : CodeUnit) × (slice_get code.now.units v.task ≡ Some unit) }
-        ensures { IfOk result (λ s. (a : AreaParts) (bodies : List Body) → IsFresh v bodies a → rules.start code.now v ≡ On (state_with s a [] v.objects)) }
+    /// The state of no invocation. It takes no memory.
+    pub fn idle(alloc: Global) -> State
+        ensures callers { result.callers.items ≡ [] }
+        ensures slots { result.slots.items ≡ [] }
+        ensures stack { result.stack.items ≡ [] }
+        ensures tags { result.tags.items ≡ [] }
     {
-        let Some(unit) = code.units.get(v.task as usize) else {
-            unreachable!()
-        };
-        let mut slots = old_values(alloc, v.objects.as_slice())?;
-        let missing = (unit.locals as usize).saturating_sub(slots.len());
-        pad(&mut slots, missing, Value::Int(0))?;
-        let mut tags = old_tags(alloc, v.tags.as_slice())?;
-        let missing = (unit.tags as usize).saturating_sub(tags.len());
-        pad(&mut tags, missing, TagRef::New(0))?;
-        Ok(State {
+        State {
             current: Call {
-                unit: v.task,
+                unit: 0,
                 next: 0,
                 base: 0,
             },
             callers: Vec::new(alloc),
-            slots,
+            slots: Vec::new(alloc),
             stack: Vec::new(alloc),
-            tags,
-            turns: most_turns(),
-        })
+            tags: Vec::new(alloc),
+            turns: 0,
+        }
+    }
+
+    /// Goes to the state before the first instruction of another invocation, in the memory that it has: its parameters are the
+    /// first slots and tag variables of its task. After want of memory it is of no use until
+    /// it is restarted.
+    pub fn restart(&mut self, code: &Code, v: Invocation) -> Result<(), AllocError>
+        requires { (unit : CodeUnit) × (slice_get code.now.units v.task ≡ Some unit) }
+        ensures { OnOk result ((a : AreaParts) (bodies : List Body) → IsFresh v bodies a → rules.start code.now v ≡ On (state_with self.new a [] v.objects)) }
+    {
+        let Some(unit) = code.units.get(v.task as usize) else {
+            unreachable!()
+        };
+        self.current = Call {
+            unit: v.task,
+            next: 0,
+            base: 0,
+        };
+        self.callers.clear();
+        self.slots.clear();
+        push_objects(&mut self.slots, v.objects.as_slice())?;
+        let missing = (unit.locals as usize).saturating_sub(self.slots.len());
+        pad(&mut self.slots, missing, Value::Int(0))?;
+        self.stack.clear();
+        self.tags.clear();
+        push_tags(&mut self.tags, v.tags.as_slice())?;
+        let missing = (unit.tags as usize).saturating_sub(self.tags.len());
+        pad(&mut self.tags, missing, TagRef::New(0))?;
+        self.turns = most_turns();
+        Ok(())
+    }
+
+    /// The state before the first instruction of an invocation.
+    pub fn start(alloc: Global, code: &Code, v: Invocation) -> Result<State, AllocError>
+        requires { (unit : CodeUnit) × (slice_get code.now.units v.task ≡ Some unit) }
+        ensures { IfOk result (λ s. (a : AreaParts) (bodies : List Body) → IsFresh v bodies a → rules.start code.now v ≡ On (state_with s a [] v.objects)) }
+    {
+        let mut state = State::idle(alloc);
+        state.restart(code, v)?;
+        Ok(state)
     }
 }

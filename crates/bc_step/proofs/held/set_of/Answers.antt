@@ -1,6 +1,0 @@
-use Rattle.std.proofs.Common.{arith}
-use Rattle.bc_step.proofs.Holds.{set_more}
-use Rattle.bc_step.proofs.held.set_of.Goals as goal
-
-pub loop-id-preserved : goal.loop-id-preserved
-loop-id-preserved c = set_more c.args.objects.now c.loop-id.ids.keys c.insert.new.self.keys c.loop-id.id-index c.requires (omega arith) c.loop-id.invariant c.in_ok-insert.ensures.keys
