@@ -6,6 +6,9 @@ use bc_base::fault::Failed;
 use bc_base::source::{MemorySource, Source};
 use bc_data::list::{Bytes, List};
 use std::alloc::{AllocError, Global};
+use std::fs;
+use std::rt::Files;
+use std::test::Fail;
 
 pub fn bytes(alloc: Global, text: &str) -> Result<Bytes, AllocError> {
     Bytes::from_slice(alloc, text.as_bytes())
@@ -13,6 +16,24 @@ pub fn bytes(alloc: Global, text: &str) -> Result<Bytes, AllocError> {
 
 pub fn calls(alloc: Global, numbers: &[u32]) -> Result<List<u32>, AllocError> {
     List::from_slice(alloc, numbers)
+}
+
+/// A source of this text, whose calls in `fails` fail.
+pub fn memory_source(alloc: Global, text: &str, fails: &[u32]) -> Result<MemorySource, AllocError> {
+    let content = bytes(alloc, text)?;
+    Ok(MemorySource::new(content, calls(alloc, fails)?))
+}
+
+/// Writes "lantern" to a file for a test of this name in the process of this number, and gives its path.
+pub fn lantern_file<R: Files>(
+    alloc: Global,
+    files: &R,
+    name: &str,
+    number: u32,
+) -> Result<String, Fail> {
+    let path = format!(in alloc; "/tmp/{name}_{number}")?;
+    fs::write(files, &path, "lantern")?;
+    Ok(path)
 }
 
 /// So many bytes, which aren't all the same.

@@ -1,32 +1,39 @@
 // The top call over objects in memory: `check`, and `show` of texts whose names or types are wrong.
 
-use crate::calls::{call, expect};
-use std::alloc::Global;
+use crate::calls::{is_told, sound};
+use std::alloc::{AllocError, Global};
 use std::process::Abort;
-use std::test::Fail;
 
 const CELLS: &str =
     "class Cell { flag on; flag off; int d; }\ntask startup(StartupObject s in initialstate) { new Cell(){on := true, off := true}; taskexit(s: initialstate := false); }\ntask bad(Cell c in on) { print(8 / c.d); taskexit(c: on := false); }\ntask fix(Cell c in off) { c.d = 2; taskexit(c: off := false); }\n";
 
-fn expect_checked(rt: &impl Abort, alloc: Global, text: &str, told: &str) -> Result<(), Fail> {
-    let answer = call(alloc, &["check", "p"], text.as_bytes(), 100_000, &[])?;
-    expect(rt, &answer, 0, told, "");
-    assert_eq!(rt; answer.report.stop.is_none(), true);
-    assert_eq!(rt; answer.asked, 1);
+fn expect_checked(
+    rt: &impl Abort,
+    alloc: Global,
+    text: &str,
+    told: &str,
+) -> Result<(), AllocError> {
+    let rest = is_told(rt, alloc, &["check", "p"], sound(text, b""), 0, told, "")?;
+    assert!(rt; !rest.has_stop);
+    assert_eq!(rt; rest.asked, 1);
     Ok(())
 }
 
 // Both commands refuse such a text.
-fn expect_refused(rt: &impl Abort, alloc: Global, text: &str, message: &str) -> Result<(), Fail> {
-    let checked = call(alloc, &["check", "p"], text.as_bytes(), 100_000, &[])?;
-    expect(rt, &checked, 1, "", message);
-    let shown = call(alloc, &["show", "p"], text.as_bytes(), 100_000, &[])?;
-    expect(rt, &shown, 1, "", message);
+fn expect_refused(
+    rt: &impl Abort,
+    alloc: Global,
+    text: &str,
+    message: &str,
+) -> Result<(), AllocError> {
+    let setting = sound(text, b"");
+    is_told(rt, alloc, &["check", "p"], setting, 1, "", message)?;
+    is_told(rt, alloc, &["show", "p"], setting, 1, "", message)?;
     Ok(())
 }
 
 #[test]
-fn counts_what_is_declared(rt: HostRuntime) -> Result<(), Fail> {
+fn counts_what_is_declared(rt: HostRuntime) -> Result<(), AllocError> {
     let alloc = rt.alloc();
     expect_checked(&rt, alloc, CELLS, "ok: 1 classes, 0 tag types, 3 tasks\n")?;
     expect_checked(&rt, alloc, "", "ok: 0 classes, 0 tag types, 0 tasks\n")?;
@@ -39,7 +46,7 @@ fn counts_what_is_declared(rt: HostRuntime) -> Result<(), Fail> {
 }
 
 #[test]
-fn tells_the_first_fault_of_names_and_types(rt: HostRuntime) -> Result<(), Fail> {
+fn tells_the_first_fault_of_names_and_types(rt: HostRuntime) -> Result<(), AllocError> {
     let alloc = rt.alloc();
     expect_refused(
         &rt,
@@ -74,7 +81,7 @@ fn tells_the_first_fault_of_names_and_types(rt: HostRuntime) -> Result<(), Fail>
 }
 
 #[test]
-fn tells_mismatches_and_misplaced_statements(rt: HostRuntime) -> Result<(), Fail> {
+fn tells_mismatches_and_misplaced_statements(rt: HostRuntime) -> Result<(), AllocError> {
     let alloc = rt.alloc();
     expect_refused(
         &rt,

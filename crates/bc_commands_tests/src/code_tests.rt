@@ -1,20 +1,23 @@
 // The top call over objects in memory: `code`.
 
-use crate::calls::{call, expect};
-use std::alloc::Global;
+use crate::calls::{is_told, sound};
+use std::alloc::{AllocError, Global};
 use std::process::Abort;
-use std::test::Fail;
 
-fn expect_listed(rt: &impl Abort, alloc: Global, text: &str, listing: &str) -> Result<(), Fail> {
-    let answer = call(alloc, &["code", "p"], text.as_bytes(), 100_000, &[])?;
-    expect(rt, &answer, 0, listing, "");
-    assert_eq!(rt; answer.report.stop.is_none(), true);
-    assert_eq!(rt; answer.asked, 1);
+fn expect_listed(
+    rt: &impl Abort,
+    alloc: Global,
+    text: &str,
+    listing: &str,
+) -> Result<(), AllocError> {
+    let rest = is_told(rt, alloc, &["code", "p"], sound(text, b""), 0, listing, "")?;
+    assert!(rt; !rest.has_stop);
+    assert_eq!(rt; rest.asked, 1);
     Ok(())
 }
 
 #[test]
-fn lists_a_task(rt: HostRuntime) -> Result<(), Fail> {
+fn lists_a_task(rt: HostRuntime) -> Result<(), AllocError> {
     expect_listed(
         &rt,
         rt.alloc(),
@@ -24,7 +27,7 @@ fn lists_a_task(rt: HostRuntime) -> Result<(), Fail> {
 }
 
 #[test]
-fn lists_a_loop(rt: HostRuntime) -> Result<(), Fail> {
+fn lists_a_loop(rt: HostRuntime) -> Result<(), AllocError> {
     expect_listed(
         &rt,
         rt.alloc(),
@@ -142,20 +145,22 @@ method Cell.put:
 "#;
 
 #[test]
-fn lists_classes_behind_tasks(rt: HostRuntime) -> Result<(), Fail> {
+fn lists_classes_behind_tasks(rt: HostRuntime) -> Result<(), AllocError> {
     expect_listed(&rt, rt.alloc(), CELLS, CELLS_LISTED)
 }
 
 #[test]
-fn lists_no_refused_text(rt: HostRuntime) -> Result<(), Fail> {
-    let alloc = rt.alloc();
-    let answer = call(
-        alloc,
+fn lists_no_refused_text(rt: HostRuntime) -> Result<(), AllocError> {
+    let text = "task t(StartupObject s in initialstate) {\n  x = 1;\n}\n";
+    let refused = "refused: Unknown at 2:3\n";
+    is_told(
+        &rt,
+        rt.alloc(),
         &["code", "p"],
-        b"task t(StartupObject s in initialstate) {\n  x = 1;\n}\n",
-        100_000,
-        &[],
+        sound(text, b""),
+        1,
+        "",
+        refused,
     )?;
-    expect(&rt, &answer, 1, "", "refused: Unknown at 2:3\n");
     Ok(())
 }

@@ -1,13 +1,11 @@
 // The rules of names and types as the manual tells them, each with programs that keep it and programs that don't.
 
-use crate::calls::call;
-use std::alloc::Global;
+use crate::calls::{call_with, sound};
+use std::alloc::{AllocError, Global};
 use std::process::Abort;
-use std::test::Fail;
 
 // A row is `ok` and a program, or a kind of fault and a text with `@` in front of the place of the fault.
-const ROWS: &str = r#"
-ok tagtype A; class A { } task A(StartupObject s in initialstate) { }
+const ROWS: &str = r#"ok tagtype A; class A { } task A(StartupObject s in initialstate) { }
 Twice class A { } class @A { }
 Twice class @StartupObject { }
 Twice tagtype T; tagtype @T;
@@ -89,28 +87,17 @@ Mismatch tagtype T; tagtype U; class A { flag f; } task t(A a in f with T x, Sta
 Mismatch tagtype T; tagtype U; class A { flag f; } task t(A a in f with T x, StartupObject s in initialstate) { @x = null; }
 "#;
 
-// The lines that aren't empty.
-fn lines(alloc: Global, text: &'static str) -> Result<Vec<&'static str>, Fail> {
-    let mut found = Vec::new(alloc);
-    let mut rest = text;
-    for _ in 0..text.len() {
-        match rest.split_once('\n') {
-            Some((line, below)) => {
-                if !line.is_empty() {
-                    found.push(line)?;
-                }
-                rest = below;
-            }
-            None => break,
-        }
-    }
-    Ok(found)
-}
-
-fn expect_ok(rt: &impl Abort, alloc: Global, text: &str) -> Result<(), Fail> {
-    let told = call(alloc, &["check", "p"], text.as_bytes(), 1000, &[])?;
-    assert_eq!(rt; told.report.status, 0, "{text}");
-    assert_eq!(rt; told.err.as_slice(), b"".as_slice(), "{text}");
+// A text that is refused with this message, or accepted where there is none.
+fn expect_told(
+    rt: &impl Abort,
+    alloc: Global,
+    text: &str,
+    message: &str,
+) -> Result<(), AllocError> {
+    let told = call_with(alloc, &["check", "p"], sound(text, b""))?;
+    let status = if message.is_empty() { 0 } else { 1 };
+    assert!(rt; told.report.status == status, "{text}");
+    assert!(rt; told.err.as_slice() == message.as_bytes(), "{text}");
     Ok(())
 }
 
@@ -120,33 +107,31 @@ fn expect_fault(
     kind: &str,
     front: &str,
     back: &str,
-) -> Result<(), Fail> {
-    let text = format!(in alloc; "{front}{back}")?;
+) -> Result<(), AllocError> {
     let column = front.len().saturating_add(1);
+    let text = format!(in alloc; "{front}{back}")?;
     let message = format!(in alloc; "refused: {kind} at 1:{column}\n")?;
-    let told = call(alloc, &["check", "p"], text.as_bytes(), 1000, &[])?;
-    assert_eq!(rt; told.report.status, 1, "{text}");
-    assert_eq!(rt; told.err.as_slice(), message.as_bytes(), "{text}");
-    Ok(())
+    expect_told(rt, alloc, text.as_str(), message.as_str())
 }
 
-fn expect_row(rt: &impl Abort, alloc: Global, row: &str) -> Result<(), Fail> {
-    let Some((kind, text)) = row.split_once(' ') else {
-        return Err("a row has a kind and a text".into());
-    };
+fn expect_row(rt: &impl Abort, alloc: Global, row: &str) -> Result<(), AllocError> {
+    let (kind, text) = row.split_once(' ').unwrap_or((row, ""));
     match text.split_once('@') {
         Some((front, back)) => expect_fault(rt, alloc, kind, front, back),
-        None => expect_ok(rt, alloc, text),
+        None => {
+            assert_eq!(rt; kind, "ok");
+            expect_told(rt, alloc, text, "")
+        }
     }
 }
 
 #[test]
-fn rules_of_the_manual(rt: HostRuntime) -> Result<(), Fail> {
-    let alloc = rt.alloc();
-    let rows = lines(alloc, ROWS)?;
-    assert_eq!(rt; rows.len(), 80);
-    for row in rows {
-        expect_row(&rt, alloc, row)?;
+fn rules_of_the_manual(rt: HostRuntime) -> Result<(), AllocError> {
+    let mut rows: u32 = 0;
+    for row in ROWS.lines() {
+        expect_row(&rt, rt.alloc(), row)?;
+        rows = rows.saturating_add(1);
     }
+    assert_eq!(rt; rows, 80);
     Ok(())
 }

@@ -1,10 +1,8 @@
 // The top call over objects in memory: words, files and inputs that it refuses, and objects that fail.
 
-use crate::calls::{Setting, Told, call_with, expect, sound, spaces};
-use bc_data::run::Stop;
-use std::alloc::Global;
+use crate::calls::{Rest, Setting, call_with, is_told, is_told_of_spaces, sound, spaces};
+use std::alloc::{AllocError, Global};
 use std::process::Abort;
-use std::test::Fail;
 
 const HELLO: &str =
     "task startup(StartupObject s in initialstate) {\n  print(\"hello\\n\");\n  taskexit(s: initialstate := false);\n}\n";
@@ -36,33 +34,46 @@ const REFUSED: [(&str, &str); 7] = [
     ),
 ];
 
-fn serial(alloc: Global, setting: Setting<'_>) -> Result<Told, Fail> {
-    call_with(alloc, &["serial", "p", "9"], setting)
+fn serial(
+    rt: &impl Abort,
+    alloc: Global,
+    setting: Setting<'_>,
+    status: u8,
+    out: &str,
+    err: &str,
+) -> Result<Rest, AllocError> {
+    is_told(rt, alloc, &["serial", "p", "9"], setting, status, out, err)
 }
 
 // These words are no command.
-fn refuses(rt: &impl Abort, alloc: Global, words: &[&str]) -> Result<(), Fail> {
-    let told = call_with(alloc, words, sound(HELLO, b""))?;
-    expect(rt, &told, 2, "", "words: not a command\n");
-    assert_eq!(rt; told.asked, 0);
+fn refuses(rt: &impl Abort, alloc: Global, words: &[&str]) -> Result<(), AllocError> {
+    let setting = sound(HELLO, b"");
+    let rest = is_told(rt, alloc, words, setting, 2, "", "words: not a command\n")?;
+    assert_eq!(rt; rest.asked, 0);
+    Ok(())
+}
+
+// So many commits are accepted.
+fn accepts(rt: &impl Abort, alloc: Global, commits: &str) -> Result<(), AllocError> {
+    let words = ["serial", "p", commits];
+    let err = "end: 0 committed, 0 failed\n";
+    is_told(rt, alloc, &words, sound("", b""), 0, "", err)?;
     Ok(())
 }
 
 #[test]
-fn refuses_words(rt: HostRuntime) -> Result<(), Fail> {
-    let alloc = rt.alloc();
+fn refuses_words(rt: HostRuntime) -> Result<(), AllocError> {
     for commits in ["0", "03", "1000001", "18446744073709551617", "-1", "x", ""] {
-        refuses(&rt, alloc, &["serial", "p", commits])?;
+        refuses(&rt, rt.alloc(), &["serial", "p", commits])?;
     }
     for commits in ["1", "257", "1000000"] {
-        let told = call_with(alloc, &["serial", "p", commits], sound("", b""))?;
-        expect(&rt, &told, 0, "", "end: 0 committed, 0 failed\n");
+        accepts(&rt, rt.alloc(), commits)?;
     }
     Ok(())
 }
 
 #[test]
-fn refuses_other_commands(rt: HostRuntime) -> Result<(), Fail> {
+fn refuses_other_commands(rt: HostRuntime) -> Result<(), AllocError> {
     let alloc = rt.alloc();
     refuses(&rt, alloc, &[])?;
     refuses(&rt, alloc, &["serial", "p"])?;
@@ -72,132 +83,142 @@ fn refuses_other_commands(rt: HostRuntime) -> Result<(), Fail> {
 }
 
 // Such a text is refused before the input is read, though that is too long.
+fn refuses_before(
+    rt: &impl Abort,
+    alloc: Global,
+    text: &str,
+    long: &[u8],
+    message: &str,
+) -> Result<(), AllocError> {
+    let rest = serial(rt, alloc, sound(text, long), 1, "", message)?;
+    assert!(rt; !rest.has_stop);
+    assert_eq!(rt; rest.left, 65_537);
+    Ok(())
+}
+
 #[test]
-fn refuses_texts_before_inputs(rt: HostRuntime) -> Result<(), Fail> {
-    let alloc = rt.alloc();
-    let long = vec![in alloc; b'x'; 65_537]?;
+fn refuses_texts_before_inputs(rt: HostRuntime) -> Result<(), AllocError> {
+    let long = spaces(rt.alloc(), 65_537)?;
     for (text, message) in REFUSED {
-        let told = serial(alloc, sound(text, &long))?;
-        expect(&rt, &told, 1, "", message);
-        assert_eq!(rt; told.report.stop, None);
-        assert_eq!(rt; told.left, 65_537);
+        refuses_before(&rt, rt.alloc(), text, &long, message)?;
     }
     Ok(())
 }
 
 #[test]
-fn keeps_the_limit_of_files(rt: HostRuntime) -> Result<(), Fail> {
+fn keeps_the_limit_of_files(rt: HostRuntime) -> Result<(), AllocError> {
+    let words = ["serial", "p", "9"];
+    let end = "end: 0 committed, 0 failed\n";
+    is_told_of_spaces(&rt, rt.alloc(), &words, 1_048_577, 8, "too long\n")?;
+    is_told_of_spaces(&rt, rt.alloc(), &words, 1_048_576, 0, end)
+}
+
+// The program of lengths on an input of so many spaces.
+fn on_spaces(
+    rt: &impl Abort,
+    alloc: Global,
+    len: usize,
+    status: u8,
+    out: &str,
+    err: &str,
+) -> Result<Rest, AllocError> {
+    let input = spaces(alloc, len)?;
+    serial(rt, alloc, sound(LENGTH, &input), status, out, err)
+}
+
+#[test]
+fn keeps_the_limit_of_inputs(rt: HostRuntime) -> Result<(), AllocError> {
     let alloc = rt.alloc();
-    let long = spaces(alloc, 1_048_577)?;
-    let told = serial(
-        alloc,
-        Setting {
-            file: &long,
-            ..sound("", b"")
-        },
-    )?;
-    expect(&rt, &told, 8, "", "too long\n");
-    let fits = spaces(alloc, 1_048_576)?;
-    let told = serial(
-        alloc,
-        Setting {
-            file: &fits,
-            ..sound("", b"")
-        },
-    )?;
-    expect(&rt, &told, 0, "", "end: 0 committed, 0 failed\n");
+    let rest = on_spaces(&rt, alloc, 65_537, 8, "", "too long\n")?;
+    assert!(rt; !rest.has_stop);
+    let end = "end: 1 committed, 0 failed\n";
+    on_spaces(&rt, alloc, 65_536, 0, "65536", end)?;
+    Ok(())
+}
+
+fn fails_at(rt: &impl Abort, alloc: Global, call: u32) -> Result<(), AllocError> {
+    let setting = Setting {
+        input_fails: &[call],
+        ..sound(LENGTH, b"abc")
+    };
+    let rest = serial(rt, alloc, setting, 6, "", "read failed\n")?;
+    assert_eq!(rt; rest.input_faults, 1);
+    assert_eq!(rt; rest.commits, 0);
     Ok(())
 }
 
 #[test]
-fn keeps_the_limit_of_inputs(rt: HostRuntime) -> Result<(), Fail> {
+fn tells_failed_reads(rt: HostRuntime) -> Result<(), AllocError> {
     let alloc = rt.alloc();
-    let long = spaces(alloc, 65_537)?;
-    let told = serial(alloc, sound(LENGTH, &long))?;
-    expect(&rt, &told, 8, "", "too long\n");
-    assert_eq!(rt; told.report.stop, None);
-    let fits = spaces(alloc, 65_536)?;
-    let told = serial(alloc, sound(LENGTH, &fits))?;
-    expect(&rt, &told, 0, "65536", "end: 1 committed, 0 failed\n");
-    Ok(())
-}
-
-#[test]
-fn tells_failed_reads(rt: HostRuntime) -> Result<(), Fail> {
-    let alloc = rt.alloc();
-    let told = call_with(alloc, &["serial", "none", "5"], sound(HELLO, b""))?;
-    expect(&rt, &told, 6, "", "read failed\n");
-    let told = serial(
+    let words = ["serial", "none", "5"];
+    is_told(
+        &rt,
         alloc,
-        Setting {
-            shelf_fails: &[1],
-            ..sound(HELLO, b"")
-        },
+        &words,
+        sound(HELLO, b""),
+        6,
+        "",
+        "read failed\n",
     )?;
-    expect(&rt, &told, 6, "", "read failed\n");
+    let setting = Setting {
+        shelf_fails: &[1],
+        ..sound(HELLO, b"")
+    };
+    serial(&rt, alloc, setting, 6, "", "read failed\n")?;
     // the second read of the source is that of the end
-    for call in [1, 2] {
-        let told = serial(
-            alloc,
-            Setting {
-                input_fails: &[call],
-                ..sound(LENGTH, b"abc")
-            },
-        )?;
-        expect(&rt, &told, 6, "", "read failed\n");
-        assert_eq!(rt; told.input_faults, 1);
-        assert_eq!(rt; told.report.history.len(), 0);
-    }
-    Ok(())
+    fails_at(&rt, alloc, 1)?;
+    fails_at(&rt, alloc, 2)
 }
 
 #[test]
-fn tells_failed_writes(rt: HostRuntime) -> Result<(), Fail> {
+fn tells_failed_writes(rt: HostRuntime) -> Result<(), AllocError> {
     let alloc = rt.alloc();
     let cut = Setting {
         most: 3,
         out_fails: &[2],
         ..sound(HELLO, b"")
     };
-    let told = serial(alloc, cut)?;
-    expect(&rt, &told, 7, "hel", "write failed\n");
-    assert_eq!(rt; told.report.history.len(), 1);
-    assert_eq!(rt; told.report.stop, Some(Stop::End));
-    let told = serial(
-        alloc,
-        Setting {
-            err_fails: &[1],
-            ..sound(HELLO, b"")
-        },
-    )?;
-    expect(&rt, &told, 7, "hello\n", "");
-    assert_eq!(rt; told.report.stop, Some(Stop::End));
-    let told = serial(
-        alloc,
-        Setting {
-            err_fails: &[1],
-            ..cut
-        },
-    )?;
-    expect(&rt, &told, 7, "hel", "");
+    let rest = serial(&rt, alloc, cut, 7, "hel", "write failed\n")?;
+    assert_eq!(rt; rest.commits, 1);
+    assert!(rt; rest.has_ended);
+    let silent = Setting {
+        err_fails: &[1],
+        ..sound(HELLO, b"")
+    };
+    let rest = serial(&rt, alloc, silent, 7, "hello\n", "")?;
+    assert!(rt; rest.has_ended);
+    let both = Setting {
+        err_fails: &[1],
+        ..cut
+    };
+    serial(&rt, alloc, both, 7, "hel", "")?;
     Ok(())
 }
 
-// These commands leave a source as it was that would fail if it were read.
+// The command leaves the source, of which so many bytes can be read behind it.
+fn leaves(
+    rt: &impl Abort,
+    alloc: Global,
+    command: &str,
+    input_fails: &[u32],
+    left: usize,
+) -> Result<(), AllocError> {
+    let setting = Setting {
+        input_fails,
+        ..sound(HELLO, b"abc")
+    };
+    let told = call_with(alloc, &[command, "p"], setting)?;
+    assert!(rt; told.report.status == 0, "{command}");
+    assert!(rt; told.left == left && told.input_faults == 0, "{command}");
+    Ok(())
+}
+
+// These commands leave a source as it was, also one that fails at its first read.
 #[test]
-fn leaves_the_input(rt: HostRuntime) -> Result<(), Fail> {
-    let alloc = rt.alloc();
+fn leaves_the_input(rt: HostRuntime) -> Result<(), AllocError> {
     for command in ["show", "check", "code"] {
-        let told = call_with(alloc, &[command, "p"], sound(HELLO, b"abc"))?;
-        assert_eq!(rt; told.report.status, 0, "{command}");
-        assert_eq!(rt; told.left, 3, "{command}");
-        let failing = Setting {
-            input_fails: &[1],
-            ..sound(HELLO, b"abc")
-        };
-        let told = call_with(alloc, &[command, "p"], failing)?;
-        assert_eq!(rt; told.report.status, 0, "{command}");
-        assert_eq!(rt; told.input_faults, 0, "{command}");
+        leaves(&rt, rt.alloc(), command, &[], 3)?;
+        leaves(&rt, rt.alloc(), command, &[1], 0)?;
     }
     Ok(())
 }

@@ -1,11 +1,10 @@
 // The top call over objects in memory: `serial`.
 
-use crate::calls::{call, call_with, expect, sound};
-use bc_data::list::List;
-use bc_data::run::Stop;
-use std::alloc::Global;
+use crate::calls::{call_with, is_told, of_file, sound};
+use bc_data::list::{Bytes, List};
+use bc_data::run::{Invocation, Stop};
+use std::alloc::{AllocError, Global};
 use std::process::Abort;
-use std::test::Fail;
 
 // A program, its input and its limit of commits; the status, and what the call writes.
 #[derive(Clone, Copy)]
@@ -264,60 +263,75 @@ task serve(Job j in todo) { print(j.share(60), \"\\n\"); taskexit(j: todo := fal
     err: "end: 3 committed, 1 failed\nfailed: serve(3): Zero at 5:39\n",
 };
 
-fn holds(rt: &impl Abort, alloc: Global, row: Row<'_>) -> Result<(), Fail> {
+fn holds(rt: &impl Abort, alloc: Global, row: Row<'_>) -> Result<(), AllocError> {
+    let words = ["serial", "p", row.commits];
     let setting = sound(row.text, row.input.as_bytes());
-    let told = call_with(alloc, &["serial", "p", row.commits], setting)?;
-    expect(rt, &told, row.status, row.out, row.err);
-    assert!(rt; told.report.stop.is_some());
-    assert_eq!(rt; told.asked, 1);
-    assert_eq!(rt; told.left, 0);
+    let rest = is_told(rt, alloc, &words, setting, row.status, row.out, row.err)?;
+    assert!(rt; rest.has_stop);
+    assert_eq!(rt; rest.asked, 1);
+    assert_eq!(rt; rest.left, 0);
     Ok(())
 }
 
 #[test]
-fn runs_programs(rt: HostRuntime) -> Result<(), Fail> {
+fn runs_programs(rt: HostRuntime) -> Result<(), AllocError> {
     let alloc = rt.alloc();
-    for row in [
-        HELLO, EMPTY, BOOM, FIXED, AGAIN, TURNS, READS, LEAST, PAIRS, JOINS, CLEARS, SERVICE,
-    ] {
-        holds(&rt, alloc, row)?;
-    }
-    Ok(())
+    holds(&rt, alloc, HELLO)?;
+    holds(&rt, alloc, EMPTY)?;
+    holds(&rt, alloc, BOOM)?;
+    holds(&rt, alloc, FIXED)?;
+    holds(&rt, alloc, AGAIN)?;
+    holds(&rt, alloc, TURNS)?;
+    holds(&rt, alloc, READS)?;
+    holds(&rt, alloc, LEAST)?;
+    holds(&rt, alloc, PAIRS)?;
+    holds(&rt, alloc, JOINS)?;
+    holds(&rt, alloc, CLEARS)?;
+    holds(&rt, alloc, SERVICE)
 }
 
 #[test]
-fn keeps_the_limits_of_runs(rt: HostRuntime) -> Result<(), Fail> {
+fn keeps_the_limits_of_runs(rt: HostRuntime) -> Result<(), AllocError> {
     let alloc = rt.alloc();
-    for row in [SPINS, SPINS_TOO_LONG, DEEP, FILLS, NEARLY_CROWDED, CROWDED] {
-        holds(&rt, alloc, row)?;
+    holds(&rt, alloc, SPINS)?;
+    holds(&rt, alloc, SPINS_TOO_LONG)?;
+    holds(&rt, alloc, DEEP)?;
+    holds(&rt, alloc, FILLS)?;
+    holds(&rt, alloc, NEARLY_CROWDED)?;
+    holds(&rt, alloc, CROWDED)
+}
+
+fn is_join(v: &Invocation, objects: &[u32], tags: &[u32]) -> bool {
+    v.task == 1 && v.objects.as_slice() == objects && v.tags.as_slice() == tags
+}
+
+fn are_joins(history: &[Invocation]) -> bool {
+    match history {
+        [_, second, third] => is_join(second, &[2, 3], &[0]) && is_join(third, &[4, 5], &[1]),
+        _ => false,
     }
-    Ok(())
 }
 
 #[test]
-fn reports_history_and_stop(rt: HostRuntime) -> Result<(), Fail> {
-    let alloc = rt.alloc();
-    let told = call(
-        alloc,
-        &["serial", "p", "9"],
-        JOINS.text.as_bytes(),
-        100,
-        &[],
-    )?;
-    assert_eq!(rt; told.report.stop, Some(Stop::End));
-    let history = told.report.history.as_slice();
-    assert_eq!(rt; history.len(), 3);
-    for (v, objects, tag) in [(&history[1], [2, 3], [0]), (&history[2], [4, 5], [1])] {
-        assert_eq!(rt; v.task, 1);
-        assert_eq!(rt; v.objects.as_slice(), objects.as_slice());
-        assert_eq!(rt; v.tags.as_slice(), tag.as_slice());
-    }
+fn reports_history_and_stop(rt: HostRuntime) -> Result<(), AllocError> {
+    let told = call_with(rt.alloc(), &["serial", "p", "9"], sound(JOINS.text, b""))?;
+    assert!(rt; matches!(told.report.stop, Some(Stop::End)));
+    assert!(rt; are_joins(told.report.history.as_slice()));
     Ok(())
+}
+
+fn failures_from_2_to_21(alloc: Global) -> Result<String, AllocError> {
+    let mut err = String::from_str(alloc, "end: 1 committed, 21 failed\n")?;
+    for id in 2..22 {
+        let line = format!(in alloc; "failed: bad({id}): Assert at 7:22\n")?;
+        err.push_str(line.as_str())?;
+    }
+    Ok(err)
 }
 
 // Of more than 20 failures the first 20 are told.
 #[test]
-fn tells_twenty_failures(rt: HostRuntime) -> Result<(), Fail> {
+fn tells_twenty_failures(rt: HostRuntime) -> Result<(), AllocError> {
     let alloc = rt.alloc();
     let text = "class C { flag f; }
 task startup(StartupObject s in initialstate) {
@@ -326,39 +340,32 @@ task startup(StartupObject s in initialstate) {
   taskexit(s: initialstate := false);
 }
 task bad(C c in f) { assert(false); }";
-    let mut err = String::from_str(alloc, "end: 1 committed, 21 failed\n")?;
-    for id in 2..22 {
-        err.push_str(format!(in alloc; "failed: bad({id}): Assert at 7:22\n")?.as_str())?;
-    }
-    let told = call(alloc, &["serial", "p", "30"], text.as_bytes(), 100, &[])?;
-    expect(&rt, &told, 0, "", err.as_str());
+    let err = failures_from_2_to_21(alloc)?;
+    let words = ["serial", "p", "30"];
+    is_told(&rt, alloc, &words, sound(text, b""), 0, "", err.as_str())?;
     Ok(())
 }
 
-// 256 texts of 65,536 bytes fill the output: one run more has no room, and is told as a failure.
-#[test]
-fn tells_a_full_output(rt: HostRuntime) -> Result<(), Fail> {
-    let alloc = rt.alloc();
-    let mut text = List::from_slice(
-        alloc,
-        b"\n  task a(StartupObject s in initialstate){print(\"",
-    )?;
+// A task that prints a text of 65,536 bytes at each run.
+fn loud(alloc: Global) -> Result<Bytes, AllocError> {
+    let front = b"\n  task a(StartupObject s in initialstate){print(\"";
+    let mut text = List::from_slice(alloc, front)?;
     for _ in 0..65_536 {
         text.push(b'x')?;
     }
     text.extend_from_slice(b"\");}")?;
-    let told = call(
-        alloc,
-        &["serial", "p", "256"],
-        text.as_slice(),
-        16_777_216,
-        &[],
-    )?;
-    assert_eq!(rt; told.report.status, 0);
-    assert_eq!(rt; told.out.len(), 256 * 65_536);
-    assert_eq!(rt;
-        told.err.as_slice(),
-        b"end: 256 committed, 1 failed\nfailed: a(0): Output at 2:3\n".as_slice()
-    );
+    Ok(text)
+}
+
+// 256 such texts fill the output: one run more has no room, and is told as a failure.
+#[test]
+fn tells_a_full_output(rt: HostRuntime) -> Result<(), AllocError> {
+    let alloc = rt.alloc();
+    let text = loud(alloc)?;
+    let told = call_with(alloc, &["serial", "p", "256"], of_file(text.as_slice()))?;
+    let err = b"end: 256 committed, 1 failed\nfailed: a(0): Output at 2:3\n";
+    assert!(rt; told.report.status == 0);
+    assert!(rt; told.out.len() == 256 * 65_536);
+    assert!(rt; told.err.as_slice() == err.as_slice());
     Ok(())
 }

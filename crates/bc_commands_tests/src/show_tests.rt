@@ -1,10 +1,9 @@
 // The top call over objects in memory: `show`.
 
-use crate::calls::{call, expect, spaces};
+use crate::calls::{Setting, is_told, is_told_of_spaces, of_file, sound};
 use bc_data::list::{Bytes, List};
-use std::alloc::Global;
+use std::alloc::{AllocError, Global};
 use std::process::Abort;
-use std::test::Fail;
 
 // A program on one line, and its canonical text.
 const ONE_LINE: &str =
@@ -16,23 +15,26 @@ const CANONICAL: &str =
 const HELLO: &str =
     "task startup(StartupObject s in initialstate) {\n  print(\"hello\\n\");\n  taskexit(s: initialstate := false);\n}\n";
 
-fn expect_shown(rt: &impl Abort, alloc: Global, text: &str, shown: &str) -> Result<(), Fail> {
-    let told = call(alloc, &["show", "p"], text.as_bytes(), 100_000, &[])?;
-    expect(rt, &told, 0, shown, "");
-    assert_eq!(rt; told.report.history.len(), 0);
-    assert_eq!(rt; told.report.stop.is_none(), true);
-    assert_eq!(rt; told.asked, 1);
+fn expect_shown(rt: &impl Abort, alloc: Global, text: &str, shown: &str) -> Result<(), AllocError> {
+    let rest = is_told(rt, alloc, &["show", "p"], sound(text, b""), 0, shown, "")?;
+    assert!(rt; !rest.has_stop);
+    assert_eq!(rt; rest.commits, 0);
+    assert_eq!(rt; rest.asked, 1);
     Ok(())
 }
 
-fn expect_refused(rt: &impl Abort, alloc: Global, text: &[u8], message: &str) -> Result<(), Fail> {
-    let told = call(alloc, &["show", "p"], text, 100_000, &[])?;
-    expect(rt, &told, 1, "", message);
+fn expect_refused(
+    rt: &impl Abort,
+    alloc: Global,
+    text: &[u8],
+    message: &str,
+) -> Result<(), AllocError> {
+    is_told(rt, alloc, &["show", "p"], of_file(text), 1, "", message)?;
     Ok(())
 }
 
 #[test]
-fn shows_canonical_texts(rt: HostRuntime) -> Result<(), Fail> {
+fn shows_canonical_texts(rt: HostRuntime) -> Result<(), AllocError> {
     let alloc = rt.alloc();
     expect_shown(&rt, alloc, ONE_LINE, CANONICAL)?;
     expect_shown(&rt, alloc, CANONICAL, CANONICAL)?;
@@ -42,7 +44,7 @@ fn shows_canonical_texts(rt: HostRuntime) -> Result<(), Fail> {
 }
 
 #[test]
-fn tells_the_first_fault_of_a_text(rt: HostRuntime) -> Result<(), Fail> {
+fn tells_the_first_fault_of_a_text(rt: HostRuntime) -> Result<(), AllocError> {
     let alloc = rt.alloc();
     expect_refused(
         &rt,
@@ -64,7 +66,7 @@ fn tells_the_first_fault_of_a_text(rt: HostRuntime) -> Result<(), Fail> {
 }
 
 // A task with so many parentheses open in its second line.
-fn nested(alloc: Global, levels: usize) -> Result<Bytes, Fail> {
+fn nested(alloc: Global, levels: usize) -> Result<Bytes, AllocError> {
     let mut text = List::from_slice(
         alloc,
         b"task t(StartupObject s in initialstate) {\n  int x = ",
@@ -76,7 +78,7 @@ fn nested(alloc: Global, levels: usize) -> Result<Bytes, Fail> {
 }
 
 #[test]
-fn tells_where_a_text_is_too_deep(rt: HostRuntime) -> Result<(), Fail> {
+fn tells_where_a_text_is_too_deep(rt: HostRuntime) -> Result<(), AllocError> {
     let alloc = rt.alloc();
     let deep = nested(alloc, 65)?;
     expect_refused(&rt, alloc, deep.as_slice(), "refused: TooDeep at 2:74\n")?;
@@ -85,27 +87,33 @@ fn tells_where_a_text_is_too_deep(rt: HostRuntime) -> Result<(), Fail> {
 }
 
 #[test]
-fn has_a_limit_for_files(rt: HostRuntime) -> Result<(), Fail> {
-    let alloc = rt.alloc();
-    let long = spaces(alloc, 1_048_577)?;
-    let told = call(alloc, &["show", "p"], &long, 100, &[])?;
-    expect(&rt, &told, 8, "", "too long\n");
-    let fits = spaces(alloc, 1_048_576)?;
-    let told = call(alloc, &["show", "p"], &fits, 100, &[])?;
-    expect(&rt, &told, 0, "", "");
-    Ok(())
+fn has_a_limit_for_files(rt: HostRuntime) -> Result<(), AllocError> {
+    let words = ["show", "p"];
+    is_told_of_spaces(&rt, rt.alloc(), &words, 1_048_577, 8, "too long\n")?;
+    is_told_of_spaces(&rt, rt.alloc(), &words, 1_048_576, 0, "")
 }
 
 #[test]
-fn tells_other_words_and_failed_calls(rt: HostRuntime) -> Result<(), Fail> {
+fn tells_other_words_and_failed_calls(rt: HostRuntime) -> Result<(), AllocError> {
     let alloc = rt.alloc();
-    let told = call(alloc, &["show", "p", "3"], b"", 100, &[])?;
-    expect(&rt, &told, 2, "", "words: not a command\n");
-    let told = call(alloc, &["show"], b"", 100, &[])?;
-    expect(&rt, &told, 2, "", "words: not a command\n");
-    let told = call(alloc, &["show", "q"], b"", 100, &[])?;
-    expect(&rt, &told, 6, "", "read failed\n");
-    let told = call(alloc, &["show", "p"], HELLO.as_bytes(), 7, &[2])?;
-    expect(&rt, &told, 7, "task st", "write failed\n");
+    let none = sound("", b"");
+    let refused = "words: not a command\n";
+    is_told(&rt, alloc, &["show", "p", "3"], none, 2, "", refused)?;
+    is_told(&rt, alloc, &["show"], none, 2, "", refused)?;
+    is_told(&rt, alloc, &["show", "q"], none, 6, "", "read failed\n")?;
+    let cut = Setting {
+        most: 7,
+        out_fails: &[2],
+        ..sound(HELLO, b"")
+    };
+    is_told(
+        &rt,
+        alloc,
+        &["show", "p"],
+        cut,
+        7,
+        "task st",
+        "write failed\n",
+    )?;
     Ok(())
 }

@@ -94,18 +94,3 @@ impl Ids {
         all
     }
 }
-
-#[cfg(test)]
-mod tests {
-    use super::*;
-
-    #[test]
-    fn holds_four(rt: HostRuntime) {
-        let mut ids = Ids::from_slice(&[7, 0, 7]);
-        ids.push(2);
-        assert_eq!(rt; ids.as_slice(), [7, 0, 7, 2].as_slice());
-        assert_eq!(rt; ids.get(1), Some(0));
-        assert_eq!(rt; ids.get(4), None);
-        assert!(rt; Ids::none().is_empty());
-    }
-}

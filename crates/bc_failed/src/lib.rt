@@ -5,5 +5,3 @@ pub mod entry;
 pub mod failures;
 pub mod laws;
 mod order;
-#[cfg(test)]
-mod tests;

@@ -2,5 +2,3 @@
 #![tactic(auto)]
 
 pub mod guard;
-#[cfg(test)]
-mod tests;

@@ -23,33 +23,32 @@ fn is_of_room(kind: FaultKind) -> bool {
     )
 }
 
-fn same_body(rt: &impl Abort, body: &Body, other: &Body) {
-    assert_eq!(rt; body.kind, other.kind);
-    assert_eq!(rt; body.cells.as_slice(), other.cells.as_slice());
-    assert_eq!(rt; body.flags, other.flags);
-    assert_eq!(rt; body.tags.as_slice(), other.tags.as_slice());
+fn same_body(body: &Body, other: &Body) -> bool {
+    body.kind == other.kind
+        && body.flags == other.flags
+        && body.cells.as_slice() == other.cells.as_slice()
+        && body.tags.as_slice() == other.tags.as_slice()
 }
 
-fn same_bodies(rt: &impl Abort, bodies: &[Body], others: &[Body]) {
-    assert_eq!(rt; bodies.len(), others.len());
-    for (body, other) in bodies.iter().zip(others) {
-        same_body(rt, body, other);
-    }
+fn same_written(one: &Written, other: &Written) -> bool {
+    one.id == other.id && same_body(&one.body, &other.body)
 }
 
-fn same_written(rt: &impl Abort, written: &[Written], others: &[Written]) {
-    assert_eq!(rt; written.len(), others.len());
-    for (one, other) in written.iter().zip(others) {
-        assert_eq!(rt; one.id, other.id);
-        same_body(rt, &one.body, &other.body);
-    }
-}
-
-fn same_changes(rt: &impl Abort, changes: &Changes, others: &Changes) {
-    same_written(rt, changes.bodies.as_slice(), others.bodies.as_slice());
-    same_bodies(rt, changes.made.as_slice(), others.made.as_slice());
-    assert_eq!(rt; changes.tags.as_slice(), others.tags.as_slice());
-    assert_eq!(rt; changes.text.as_slice(), others.text.as_slice());
+fn same_changes(changes: &Changes, others: &Changes) -> bool {
+    let bodies = changes.bodies.as_slice();
+    let made = changes.made.as_slice();
+    bodies.len() == others.bodies.len()
+        && bodies
+            .iter()
+            .zip(&others.bodies)
+            .all(|(one, other)| same_written(one, other))
+        && made.len() == others.made.len()
+        && made
+            .iter()
+            .zip(&others.made)
+            .all(|(one, other)| same_body(one, other))
+        && changes.tags.as_slice() == others.tags.as_slice()
+        && changes.text.as_slice() == others.text.as_slice()
 }
 
 // Whether a run ended as an outcome says.
@@ -57,7 +56,8 @@ fn same_end(rt: &impl Abort, alloc: Global, run: &Run, ran: &Ran) -> Result<(), 
     match ran {
         Ran::Commit(changes) => {
             assert_eq!(rt; run.ended, Ended::Commit);
-            same_changes(rt, &run.area.changes(alloc)?, changes);
+            let made = run.area.changes(alloc)?;
+            assert!(rt; same_changes(&made, changes));
         }
         Ran::Faulted(fault) if is_of_room(fault.kind) => {
             assert_eq!(rt; run.ended, Ended::Commit);

@@ -1,7 +1,7 @@
 // The serial run of a program, one call of the meaning after the other. The store fits the program all along. Each invocation
 // is run by its code too.
 
-ghost use Rattle.std.specs.Prelude.{◌≡◌, ◌≤◌, length, IfOk};
+ghost use Rattle.std.specs.Prelude.{◌≡◌, ◌≤◌, length, IfOk, OnOk};
 ghost use Rattle.bc_data.specs.ProgramView.{view_program};
 ghost use Rattle.bc_mean.specs.Changes.{apply_changes};
 ghost use Rattle.bc_mean.specs.Commit.{HasRoom};
@@ -22,6 +22,7 @@ use bc_mean::{all_enabled, apply, is_enabled, start};
 use bc_replay::start_fits;
 use bc_tree::run_tree;
 use std::alloc::Global;
+use std::mem;
 use std::process::Abort;
 use std::test::Fail;
 
@@ -40,13 +41,6 @@ pub struct Course {
     pub pending: List<Invocation>,
     pub history: List<Invocation>,
     pub failures: List<Failure>,
-}
-
-/// A run and whether it goes on behind a step.
-#[derive(Drop)]
-pub struct Step {
-    pub course: Course,
-    pub goes_on: bool,
 }
 
 // All enabled invocations of a store.
@@ -115,109 +109,103 @@ fn append_new(
     Ok(())
 }
 
-// A run behind the commit of an invocation.
-fn committed(
-    alloc: Global,
-    program: &Program,
-    course: Course,
-    v: Invocation,
-    changes: Changes,
-) -> Result<Course, Fail>
-    requires room { HasRoom course.store changes }
-    requires fits { Fits program.now (apply_changes course.store changes) }
-    ensures { IfOk result (λ behind. Fits program.now behind.store) }
-{
-    let Course {
-        mut store,
-        pending,
-        mut history,
-        failures,
-    } = course;
-    let ids = written(alloc, &changes)?;
-    apply(alloc, &mut store, changes)?;
-    history.push(v)?;
-    let failures = untouched(alloc, failures, ids.as_slice())?;
-    let mut pending = still_enabled(alloc, program, &store, pending.as_slice())?;
-    let all = enabled(alloc, program, &store)?;
-    append_new(&mut pending, failures.as_slice(), all.as_slice())?;
-    Ok(Course {
-        store,
-        pending,
-        history,
-        failures,
-    })
+// Drops the failures that touched one of these objects.
+fn drop_touching(alloc: Global, failures: &mut List<Failure>, ids: &[u32]) -> Result<(), Fail> {
+    let all = mem::replace(failures, List::new(alloc));
+    *failures = untouched(alloc, all, ids)?;
+    Ok(())
 }
 
-// A run behind a step that ended so: a commit, unless the history has as many as it may have, or a failure.
-fn ended(
+// Drops what is pending and no longer enabled, and appends what is newly enabled.
+fn list_again(alloc: Global, program: &Program, course: &mut Course) -> Result<(), Fail>
+    requires { Fits program.now course.old.store }
+    ensures { course.new.store ≡ course.old.store }
+{
+    course.pending = still_enabled(alloc, program, &course.store, course.pending.as_slice())?;
+    let all = enabled(alloc, program, &course.store)?;
+    append_new(
+        &mut course.pending,
+        course.failures.as_slice(),
+        all.as_slice(),
+    )
+}
+
+// Goes on behind the commit of an invocation.
+fn commit(
     alloc: Global,
     program: &Program,
-    course: Course,
+    course: &mut Course,
+    v: Invocation,
+    changes: Changes,
+) -> Result<(), Fail>
+    requires room { HasRoom course.old.store changes }
+    requires fits { Fits program.now (apply_changes course.old.store changes) }
+    ensures { OnOk result (Fits program.now course.new.store) }
+{
+    let ids = written(alloc, &changes)?;
+    apply(alloc, &mut course.store, changes)?;
+    course.history.push(v)?;
+    drop_touching(alloc, &mut course.failures, ids.as_slice())?;
+    list_again(alloc, program, course)
+}
+
+// Goes on behind an invocation that ended so: a commit, unless the history has as many as it may have, or a failure.
+// Whether the run goes on.
+fn end(
+    alloc: Global,
+    program: &Program,
+    course: &mut Course,
     v: Invocation,
     out: Outcome,
     limit: usize,
-) -> Result<Step, Fail>
-    requires fits { Fits program.now course.store }
-    requires enabled { IsEnabled program.now course.store v }
-    requires out { out ≡ outcome program.now course.store v }
-    ensures { IfOk result (λ step. Fits program.now step.course.store) }
+) -> Result<bool, Fail>
+    requires fits { Fits program.now course.old.store }
+    requires enabled { IsEnabled program.now course.old.store v }
+    requires out { out ≡ outcome program.now course.old.store v }
+    ensures { OnOk result (Fits program.now course.new.store) }
 {
     program.is_well_typed();
     commits_have_room();
     keeps_fit();
-    let mut course = course;
     let Outcome { ran, touched } = out;
     match ran {
         Ran::Faulted(fault) => {
             course.failures.push(Failure { v, fault, touched })?;
-            Ok(Step {
-                course,
-                goes_on: true,
-            })
+            Ok(true)
         }
         Ran::Commit(changes) => {
             if course.history.len() >= limit {
                 course.pending.push(v)?;
-                return Ok(Step {
-                    course,
-                    goes_on: false,
-                });
+                return Ok(false);
             }
-            let course = committed(alloc, program, course, v, changes)?;
-            Ok(Step {
-                course,
-                goes_on: true,
-            })
+            commit(alloc, program, course, v, changes)?;
+            Ok(true)
         }
     }
 }
 
-// A run behind its first pending invocation, whose code does the same.
+// Runs the first pending invocation, whose code does the same. Whether the run goes on.
 fn advance(
     rt: &impl Abort,
     alloc: Global,
     program: &Program,
     code: &Code,
-    course: Course,
+    course: &mut Course,
     limit: usize,
-) -> Result<Step, Fail>
+) -> Result<bool, Fail>
     requires translated { Translates (view_program program.now) code.now }
-    requires fits { Fits program.now course.store }
-    ensures { IfOk result (λ step. Fits program.now step.course.store) }
+    requires fits { Fits program.now course.old.store }
+    ensures { OnOk result (Fits program.now course.new.store) }
 {
-    let mut course = course;
     if course.pending.is_empty() {
-        return Ok(Step {
-            course,
-            goes_on: false,
-        });
+        return Ok(false);
     }
     let first = course.pending.remove(0);
     let v = &first;
     assert!(rt; is_enabled(program, &course.store, *v));
     let out = run_tree(alloc, program, &course.store, *v)?;
     compare(rt, alloc, program, code, &course.store, *v, &out)?;
-    ended(alloc, program, course, *v, out, limit)
+    end(alloc, program, course, *v, out, limit)
 }
 
 // A run at its start.
@@ -252,11 +240,9 @@ pub fn serial(
     let code = generate(alloc, program)?;
     let mut course = begun(alloc, program, input)?;
     for _ in 0..1000 {
-        let step = advance(rt, alloc, program, &code, course, limit)?;
-        if !step.goes_on {
-            return Ok(step.course);
+        if !advance(rt, alloc, program, &code, &mut course, limit)? {
+            return Ok(course);
         }
-        course = step.course;
     }
     Err("a run ends within 1000 steps".into())
 }

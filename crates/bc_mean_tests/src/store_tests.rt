@@ -28,24 +28,27 @@ task none(StartupObject s in false) {{ }}
     accepted(alloc, text.as_str())
 }
 
+fn is_body(body: &Body, kind: Kind, cells: &[Value], flags: u32, tags: &[TagRef]) -> bool {
+    body.kind == kind
+        && body.cells.as_slice() == cells
+        && body.flags == flags
+        && body.tags.as_slice() == tags
+}
+
+fn are_at_the_start(startup: &Body, input: &Body) -> bool {
+    let bytes = [Value::Int(97), Value::Int(98), Value::Int(99)];
+    is_body(startup, Kind::Class(0), &[Value::Old(1)], 1, &[])
+        && is_body(input, Kind::Ints, &bytes, 0, &[])
+}
+
 #[test]
 fn starts_with_the_input(rt: HostRuntime) -> Result<(), Fail> {
     let alloc = rt.alloc();
     let store = start(alloc, &program(&rt, alloc, "")?, b"abc")?;
-    assert_eq!(rt; store.bodies.len(), 2);
-    for (i, body) in store.bodies.iter().enumerate() {
-        assert!(rt; body.tags.is_empty());
-        if i == 0 {
-            assert_eq!(rt; body.kind, Kind::Class(0));
-            assert_eq!(rt; body.cells.as_slice(), [Value::Old(1)].as_slice());
-            assert_eq!(rt; body.flags, 1);
-        } else {
-            assert_eq!(rt; body.kind, Kind::Ints);
-            let bytes = [Value::Int(97), Value::Int(98), Value::Int(99)];
-            assert_eq!(rt; body.cells.as_slice(), bytes.as_slice());
-            assert_eq!(rt; body.flags, 0);
-        }
-    }
+    let [startup, input] = store.bodies.as_slice() else {
+        return Err("two objects")?;
+    };
+    assert!(rt; are_at_the_start(startup, input));
     assert!(rt; store.tags.is_empty());
     assert!(rt; store.output.is_empty());
     Ok(())
@@ -158,25 +161,21 @@ fn applied(alloc: Global, program: &Program) -> Result<Plain, AllocError> {
     Ok(store)
 }
 
+fn are_applied(startup: &Body, input: &Body, made: &Body) -> bool {
+    let cells = [Value::Old(2), Value::Old(1)];
+    is_body(startup, Kind::Class(0), &cells, 6, &[TagRef::Old(0)])
+        && is_body(input, Kind::Ints, &[Value::Int(97)], 0, &[])
+        && is_body(made, Kind::Ints, &[Value::Int(7)], 0, &[])
+}
+
 #[test]
 fn applies_changes(rt: HostRuntime) -> Result<(), Fail> {
     let alloc = rt.alloc();
     let store = applied(alloc, &program(&rt, alloc, "")?)?;
-    assert_eq!(rt; store.bodies.len(), 3);
-    for (i, body) in store.bodies.iter().enumerate() {
-        if i == 0 {
-            assert_eq!(rt;
-                body.cells.as_slice(),
-                [Value::Old(2), Value::Old(1)].as_slice()
-            );
-            assert_eq!(rt; body.flags, 6);
-            assert_eq!(rt; body.tags.as_slice(), [TagRef::Old(0)].as_slice());
-        } else if i == 1 {
-            assert_eq!(rt; body.cells.as_slice(), [Value::Int(97)].as_slice());
-        } else {
-            assert_eq!(rt; body.cells.as_slice(), [Value::Int(7)].as_slice());
-        }
-    }
+    let [startup, input, made] = store.bodies.as_slice() else {
+        return Err("three objects")?;
+    };
+    assert!(rt; are_applied(startup, input, made));
     assert_eq!(rt; store.tags.as_slice(), [1].as_slice());
     assert_eq!(rt; store.output.as_slice(), b"ok".as_slice());
     Ok(())

@@ -143,34 +143,16 @@ pub fn marked(rt: &impl Abort, alloc: Global, text: &str, kind: Kind) -> Result<
     Ok(())
 }
 
-/// The lines that aren't empty. Each ends with a line feed.
-pub fn lines(alloc: Global, text: &'static str) -> Result<Vec<&'static str>, Fail> {
-    let mut found = Vec::new(alloc);
-    let mut rest = text;
-    for _ in 0..text.len() {
-        match rest.split_once('\n') {
-            Some((line, below)) => {
-                if !line.is_empty() {
-                    found.push(line)?;
-                }
-                rest = below;
-            }
-            None => break,
-        }
-    }
-    Ok(found)
-}
-
 /// Each line between a front and a back, as `marked` has it.
 pub fn marked_lines(
     rt: &impl Abort,
     alloc: Global,
     front: &str,
-    rows: &'static str,
+    rows: &str,
     back: &str,
     kind: Kind,
 ) -> Result<(), Fail> {
-    for row in lines(alloc, rows)? {
+    for row in rows.lines() {
         let text = format!(in alloc; "{front}{row}{back}")?;
         marked(rt, alloc, text.as_str(), kind)?;
     }

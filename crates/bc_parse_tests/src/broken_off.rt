@@ -1,16 +1,15 @@
 // Items that break off behind each of their tokens, and with comments between their tokens.
 
-use crate::answers::{Answer, Kind, TREE, expect, has_fault, has_tree, lines, place_behind};
+use crate::answers::{Answer, Kind, TREE, expect, has_tree, place_behind};
 use bc_data::token::Token;
 use bc_lex::tokens;
 use bc_parse_expr::cursor::spelled;
-use std::alloc::Global;
+use std::alloc::{AllocError, Global};
 use std::process::Abort;
 use std::test::Fail;
 
 /// Items, one a line, that together have every construct of the grammar.
-const ITEMS: &str = r#"
-tagtype k;
+const ITEMS: &str = r#"tagtype k;
 class A { }
 class A { flag f; flag g; int a; bool b; A c; int[] d; bool[] e; A[] h; }
 class A { void m() { } int n(int a) { } bool p(bool a, A b) { } A q(int[] a, bool[] b, A[] c) { } int[] r() { return; } bool[] s() { } A[] u() { } }
@@ -44,6 +43,17 @@ fn joined(alloc: Global, text: &[u8], tail: &[u8]) -> Result<Vec<u8>, Fail> {
     Ok(whole)
 }
 
+// A text is refused behind its end, where something further stands that is refused.
+fn refused_behind(rt: &impl Abort, alloc: Global, text: &[u8], further: &str) -> Result<(), Fail> {
+    let want = Answer {
+        kind: Kind::Unexpected,
+        at: place_behind(text),
+    };
+    let whole = joined(alloc, text, further.as_bytes())?;
+    expect(rt, alloc, whole.as_slice(), want, further);
+    Ok(())
+}
+
 /// The item broken off behind each token but its last, with a tail and then something that no item takes: it is refused
 /// there. With nothing further the end is.
 fn broken_off(
@@ -56,31 +66,29 @@ fn broken_off(
     assert!(rt; item.len() < 1_000_000);
     let found = tokens(alloc, item)?;
     assert!(rt; 1 < found.len());
-    for token in found.as_slice() {
+    for token in &found {
         let end = (token.end as usize).min(item.len());
         if end < item.len() {
-            let mut text = joined(alloc, &item[..end], tail)?;
-            let want = Answer {
-                kind: Kind::Unexpected,
-                at: place_behind(text.as_slice()),
-            };
-            text.extend_from_slice(further.as_bytes())?;
-            expect(rt, alloc, text.as_slice(), want, further);
+            let text = joined(alloc, &item[..end], tail)?;
+            refused_behind(rt, alloc, text.as_slice(), further)?;
         }
     }
     Ok(())
 }
 
+// An item has a tree, and something further is refused behind it.
+fn is_whole(rt: &impl Abort, alloc: Global, item: &str, further: &str) -> Result<(), Fail> {
+    let front = joined(alloc, item.as_bytes(), b" ")?;
+    has_tree(rt, alloc, item);
+    refused_behind(rt, alloc, front.as_slice(), further)
+}
+
 #[test]
 fn whole_items(rt: HostRuntime) -> Result<(), Fail> {
-    let alloc = rt.alloc();
-    has_tree(&rt, alloc, ITEMS);
-    for item in lines(alloc, ITEMS)? {
-        has_tree(&rt, alloc, item);
+    has_tree(&rt, rt.alloc(), ITEMS);
+    for item in ITEMS.lines() {
         for further in ["}", "else", ";", "flag"] {
-            let text = format!(in alloc; "{item} {further}")?;
-            let front = format!(in alloc; "{item} ")?;
-            has_fault(&rt, alloc, text.as_str(), Kind::Unexpected, front.as_str());
+            is_whole(&rt, rt.alloc(), item, further)?;
         }
     }
     Ok(())
@@ -90,7 +98,7 @@ fn whole_items(rt: HostRuntime) -> Result<(), Fail> {
 #[test]
 fn the_end_comes_too_early(rt: HostRuntime) -> Result<(), Fail> {
     let alloc = rt.alloc();
-    for item in lines(alloc, ITEMS)? {
+    for item in ITEMS.lines() {
         for tail in ["", "\n", " \t", "\n\n // no more", " /* \n */\r"] {
             broken_off(&rt, alloc, item.as_bytes(), tail.as_bytes(), "")?;
         }
@@ -101,7 +109,7 @@ fn the_end_comes_too_early(rt: HostRuntime) -> Result<(), Fail> {
 #[test]
 fn a_token_that_no_item_takes(rt: HostRuntime) -> Result<(), Fail> {
     let alloc = rt.alloc();
-    for item in lines(alloc, ITEMS)? {
+    for item in ITEMS.lines() {
         for further in ["class", "task", "tagtype", "class }", "task \n 0"] {
             broken_off(&rt, alloc, item.as_bytes(), b" ", further)?;
         }
@@ -110,8 +118,7 @@ fn a_token_that_no_item_takes(rt: HostRuntime) -> Result<(), Fail> {
 }
 
 /// A program, one item a line.
-const PROGRAM: &str = r#"
-tagtype k;
+const PROGRAM: &str = r#"tagtype k;
 class A { flag f; int a; A() { } }
 tagtype l;
 task t(A x in f and !g with k a) { print("a"); taskexit(x: f := false, clear a); }
@@ -161,21 +168,36 @@ fn all_bytes(
     Ok(comment)
 }
 
+// Appends the bytes of a token, behind the comment where it isn't the first.
+fn push_token(
+    text: &mut Vec<u8>,
+    item: &[u8],
+    token: &Token,
+    comment: &[u8],
+) -> Result<(), AllocError> {
+    let (start, end) = (token.start as usize, token.end as usize);
+    if 0 < start && start < end {
+        text.extend_from_slice(comment)?;
+    }
+    text.extend_from_slice(spelled(item, start, end))
+}
+
 /// The item with a comment between every two tokens. The comment begins with a space, since it may follow a `/`.
 fn commented(rt: &impl Abort, alloc: Global, item: &[u8], comment: &[u8]) -> Result<Vec<u8>, Fail> {
     assert!(rt; item.len() < 1_000_000);
     let found = tokens(alloc, item)?;
     let mut text = Vec::new(alloc);
-    for token in found.as_slice() {
-        let (start, end) = (token.start as usize, token.end as usize);
-        if start < end {
-            if 0 < start {
-                text.extend_from_slice(comment)?;
-            }
-            text.extend_from_slice(spelled(item, start, end))?;
-        }
+    for token in &found {
+        push_token(&mut text, item, token, comment)?;
     }
     Ok(text)
+}
+
+// Whether tokens of two texts are of one kind and spelled alike.
+fn same_token(one: &[u8], a: &Token, other: &[u8], b: &Token) -> bool {
+    let left = spelled(one, a.start as usize, a.end as usize);
+    let right = spelled(other, b.start as usize, b.end as usize);
+    a.kind == b.kind && left == right
 }
 
 /// Both texts have the same tokens.
@@ -184,10 +206,8 @@ fn same_tokens(rt: &impl Abort, alloc: Global, one: &[u8], other: &[u8]) -> Resu
     let left = tokens(alloc, one)?;
     let right = tokens(alloc, other)?;
     assert_eq!(rt; left.len(), right.len());
-    for (a, b) in left.as_slice().iter().zip(right.as_slice()) {
-        assert_eq!(rt; a.kind, b.kind);
-        let bytes = spelled(one, a.start as usize, a.end as usize);
-        assert_eq!(rt; bytes, spelled(other, b.start as usize, b.end as usize));
+    for (a, b) in left.iter().zip(&right) {
+        assert!(rt; same_token(one, a, other, b));
     }
     Ok(())
 }
@@ -205,45 +225,53 @@ fn comments_of_all_bytes(rt: HostRuntime) -> Result<(), Fail> {
     let alloc = rt.alloc();
     let block = all_bytes(alloc, b" /*", None, b"*/")?;
     let line = all_bytes(alloc, b" //", Some(b'\n'), b"\n")?;
-    for item in lines(alloc, ITEMS)? {
+    for item in ITEMS.lines() {
         takes_comment(&rt, alloc, item, block.as_slice())?;
         takes_comment(&rt, alloc, item, line.as_slice())?;
     }
     Ok(())
 }
 
+fn broken_off_behind(
+    rt: &impl Abort,
+    alloc: Global,
+    item: &str,
+    comment: &[u8],
+) -> Result<(), Fail> {
+    let text = commented(rt, alloc, item.as_bytes(), comment)?;
+    broken_off(rt, alloc, text.as_slice(), comment, "class")
+}
+
 // Each token then stands in a line of its own.
 #[test]
 fn broken_off_behind_comments(rt: HostRuntime) -> Result<(), Fail> {
-    let alloc = rt.alloc();
-    let comment = all_bytes(alloc, b" //", Some(b'\n'), b"\n")?;
-    let comment = comment.as_slice();
-    for item in lines(alloc, ITEMS)? {
-        let text = commented(&rt, alloc, item.as_bytes(), comment)?;
-        broken_off(&rt, alloc, text.as_slice(), comment, "class")?;
+    let comment = all_bytes(rt.alloc(), b" //", Some(b'\n'), b"\n")?;
+    for item in ITEMS.lines() {
+        broken_off_behind(&rt, rt.alloc(), item, comment.as_slice())?;
     }
     Ok(())
 }
 
+const LIKE_TOKENS: [&[u8]; 12] = [
+    b" /**/",
+    b" /***/",
+    b" /*/*/",
+    b" /* // */",
+    b" /*\"*/",
+    b" //\"\n",
+    b" // /*\n",
+    b" //*/\n",
+    b" //\n",
+    b" /*\n*/",
+    b" /*;*/",
+    b" //}\n",
+];
+
 #[test]
 fn comments_like_tokens(rt: HostRuntime) -> Result<(), Fail> {
-    let alloc = rt.alloc();
-    for item in lines(alloc, ITEMS)? {
-        for comment in [
-            " /**/",
-            " /***/",
-            " /*/*/",
-            " /* // */",
-            " /*\"*/",
-            " //\"\n",
-            " // /*\n",
-            " //*/\n",
-            " //\n",
-            " /*\n*/",
-            " /*;*/",
-            " //}\n",
-        ] {
-            takes_comment(&rt, alloc, item, comment.as_bytes())?;
+    for item in ITEMS.lines() {
+        for comment in LIKE_TOKENS {
+            takes_comment(&rt, rt.alloc(), item, comment)?;
         }
     }
     Ok(())

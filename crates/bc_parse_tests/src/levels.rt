@@ -1,6 +1,6 @@
 // Texts with 63, 64 and 65 levels. The mark `@` stands in front of the token that is too deep.
 
-use crate::answers::{Kind, has_fault, has_tree, lines, marked, marked_lines};
+use crate::answers::{Kind, has_fault, has_tree, marked, marked_lines};
 use std::alloc::{AllocError, Global};
 use std::process::Abort;
 use std::test::Fail;
@@ -77,18 +77,17 @@ fn deepest_lines(
     rt: &impl Abort,
     alloc: Global,
     front: &str,
-    rows: &'static str,
+    rows: &str,
     back: &str,
     count: usize,
 ) -> Result<(), Fail> {
-    for row in lines(alloc, rows)? {
+    for row in rows.lines() {
         deepest(rt, alloc, front, row, back, count)?;
     }
     Ok(())
 }
 
-const OPERATORS: &str = r#"
- @+ 1
+const OPERATORS: &str = r#" @+ 1
  @- 1
  @* 1
  @/ 1
@@ -103,16 +102,14 @@ const OPERATORS: &str = r#"
  @|| 1
 "#;
 
-const LINKS: &str = r#"
-@.b
+const LINKS: &str = r#"@.b
 @.length
 @[0]
 @.m()
 @.m(1, b)
 "#;
 
-const OPERANDS: &str = r#"
-@( # 1 # )
+const OPERANDS: &str = r#"@( # 1 # )
 @- # 1 #
 @! # 1 #
 @new A( # 1 # )
@@ -128,8 +125,7 @@ x@[ # 1 # ]
 "#;
 
 // Two levels for each opening.
-const PAIRS: &str = r#"
-1 + @( # -1 # )
+const PAIRS: &str = r#"1 + @( # -1 # )
 b || @( # !b # )
 -@( # -1 # )
 !@( # !b # )
@@ -141,16 +137,14 @@ x.m(1 @+ # -1 # )
 "#;
 
 // What an element or a call stands on is one level below it.
-const ON_A_LINK: &str = r#"
-x.b@[ # -1 # ]
+const ON_A_LINK: &str = r#"x.b@[ # -1 # ]
 x.b@.m( # -1 # )
 x.m(b)@.n( # -1 # )
 x[0]@[ # -1 # ]
 "#;
 
 // A right operand that binds tighter stands one level below each further operator.
-const LAST_OF_TWO: &str = r#"
- @+ 1 * 1
+const LAST_OF_TWO: &str = r#" @+ 1 * 1
  @- 1 % 1
  @< 1 + 1
  @== 1 < 1
@@ -192,46 +186,50 @@ fn expressions(rt: HostRuntime) -> Result<(), Fail> {
     )
 }
 
-const UNARY: &str = r#"
-@( # 1 # )
+const UNARY: &str = r#"@( # 1 # )
 @- # 1 #
 x@[ # 1 # ]
 x@.m( # 1 # )
 "#;
 
+// Statements with one level around the expression that stands for the `#`.
+const ONE_LEVEL: &str = r#"int a = #; }
+A[] a = #; }
+a = #; }
+a.b = #; }
+a[1] = #; }
+return #; }
+assert(#); }
+if (#) { } }
+if (#) { } else { } }
+while (#) { } }
+"#;
+
+const TWO_LEVELS: &str = r#"a[#] = 1; }
+a.b[#] = 1; }
+a.m(#); }
+a.m(1, #, 2); }
+a[1].m(#); }
+this.m(#); }
+new A(#); }
+new A(1, #){add u}; }
+"#;
+
+// Each line of `UNARY` is the deepest at this count within the statement.
+fn within(rt: &impl Abort, alloc: Global, statement: &str, count: usize) -> Result<(), Fail> {
+    let (open, close) = statement.split_once('#').unwrap_or((statement, ""));
+    let front = format!(in alloc; "{TASK}{open}")?;
+    deepest_lines(rt, alloc, front.as_str(), UNARY, close, count)
+}
+
 // What stands around an expression is a level, and so is the element, call or `new` that it is part of.
 #[test]
 fn expressions_of_statements(rt: HostRuntime) -> Result<(), Fail> {
-    let alloc = rt.alloc();
-    let one_level = [
-        ("int a = ", "; }"),
-        ("A[] a = ", "; }"),
-        ("a = ", "; }"),
-        ("a.b = ", "; }"),
-        ("a[1] = ", "; }"),
-        ("return ", "; }"),
-        ("assert(", "); }"),
-        ("if (", ") { } }"),
-        ("if (", ") { } else { } }"),
-        ("while (", ") { } }"),
-    ];
-    for (open, close) in one_level {
-        let front = format!(in alloc; "{TASK}{open}")?;
-        deepest_lines(&rt, alloc, front.as_str(), UNARY, close, 63)?;
+    for statement in ONE_LEVEL.lines() {
+        within(&rt, rt.alloc(), statement, 63)?;
     }
-    let two_levels = [
-        ("a[", "] = 1; }"),
-        ("a.b[", "] = 1; }"),
-        ("a.m(", "); }"),
-        ("a.m(1, ", ", 2); }"),
-        ("a[1].m(", "); }"),
-        ("this.m(", "); }"),
-        ("new A(", "); }"),
-        ("new A(1, ", "){add u}; }"),
-    ];
-    for (open, close) in two_levels {
-        let front = format!(in alloc; "{TASK}{open}")?;
-        deepest_lines(&rt, alloc, front.as_str(), UNARY, close, 62)?;
+    for statement in TWO_LEVELS.lines() {
+        within(&rt, rt.alloc(), statement, 62)?;
     }
     Ok(())
 }
@@ -254,8 +252,7 @@ fn chains(rt: HostRuntime) -> Result<(), Fail> {
     Ok(())
 }
 
-const STATEMENTS: &str = r#"
-@{ # # }
+const STATEMENTS: &str = r#"@{ # # }
 @if (a) { # # }
 @if (a) { # # } else { }
 @if (a) { } else { # # }
@@ -274,13 +271,11 @@ fn statements(rt: HostRuntime) -> Result<(), Fail> {
     deepest_lines(&rt, alloc, "class A { A() { ", body, "} }", 64)
 }
 
-const FLAGS: &str = r#"
-@! # f #
+const FLAGS: &str = r#"@! # f #
 @( # f # )
 "#;
 
-const FLAG_PAIRS: &str = r#"
-f and @( # !f # )
+const FLAG_PAIRS: &str = r#"f and @( # !f # )
 f or @( # !f # )
 !@( # !f # )
 (@! # !f # )
@@ -305,8 +300,7 @@ fn guards(rt: HostRuntime) -> Result<(), Fail> {
     deepest_lines(&rt, alloc, "task t(A x in (", FLAG_PAIRS, ")) { }", 31)
 }
 
-const IN_LEVEL_63: &str = r#"
-a = 1;
+const IN_LEVEL_63: &str = r#"a = 1;
 x.b = 1;
 x.b@.c = 1;
 x.@length.b = 1;
@@ -355,8 +349,7 @@ while (a) { @this.b = 1; }
 { @new A(); }
 "#;
 
-const IN_LEVEL_64: &str = r#"
-int a = 1;
+const IN_LEVEL_64: &str = r#"int a = 1;
 A a = null;
 A[] a = true;
 int[] a = this;
@@ -409,8 +402,7 @@ print(a@.m());
 assert(a @== b);
 "#;
 
-const IN_LEVEL_65: &str = r#"
-@int a = 1;
+const IN_LEVEL_65: &str = r#"@int a = 1;
 @A a = null;
 @bool[] a = b;
 @tag a = new tag(k);
@@ -426,8 +418,7 @@ const IN_LEVEL_65: &str = r#"
 @taskexit();
 "#;
 
-const UNEXPECTED: &str = r#"
-x[@;
+const UNEXPECTED: &str = r#"x[@;
 x[@)
 x[@class
 x[]@=
@@ -449,7 +440,7 @@ fn in_blocks(
     rt: &impl Abort,
     alloc: Global,
     count: usize,
-    rows: &'static str,
+    rows: &str,
     kind: Kind,
 ) -> Result<(), Fail> {
     let opened = repeated(alloc, "{ ", count)?;
@@ -469,40 +460,43 @@ fn single_statements(rt: HostRuntime) -> Result<(), Fail> {
     in_blocks(&rt, alloc, 63, UNEXPECTED, Kind::Unexpected)
 }
 
+// What stands behind so many nested openings: each line is as `marked` has it.
+fn behind_nested(
+    rt: &impl Abort,
+    alloc: Global,
+    front: &str,
+    nest: Nest<'_>,
+    count: usize,
+    backs: &str,
+) -> Result<(), Fail> {
+    for back in backs.lines() {
+        let text = nested(alloc, front, nest, count, back)?;
+        marked(rt, alloc, text.as_str(), Kind::TooDeep)?;
+    }
+    Ok(())
+}
+
+const BEHIND_GROUPS: &str = r#" + 1; }
+ + 1 @+ 1; }
+ - 1 * 1; }
+ * 1 @- 1; }
+ == 1 @|| 1; }
+"#;
+
+const BEHIND_SUMS: &str = r#"; }
+ + 1; }
+ + 1 @+ 1; }
+"#;
+
 // Each operator moves all that stands left of it down a level.
 #[test]
 fn left_operands(rt: HostRuntime) -> Result<(), Fail> {
     let alloc = rt.alloc();
-    let groups = Nest {
-        open: "(",
-        core: "1",
-        close: ")",
-    };
     let front = "task t(A x in f) { int x = ";
-    for back in [
-        " + 1; }",
-        " + 1 @+ 1; }",
-        " - 1 * 1; }",
-        " * 1 @- 1; }",
-        " == 1 @|| 1; }",
-    ] {
-        let text = nested(alloc, front, groups, 62, back)?;
-        marked(&rt, alloc, text.as_str(), Kind::TooDeep)?;
-    }
+    behind_nested(&rt, alloc, front, nest_of("(#1#)"), 62, BEHIND_GROUPS)?;
     // a group and an operator for each opening
-    let sums = Nest {
-        open: "(",
-        core: "1",
-        close: " + 1)",
-    };
-    for back in ["; }", " + 1; }", " + 1 @+ 1; }"] {
-        let text = nested(alloc, front, sums, 31, back)?;
-        marked(&rt, alloc, text.as_str(), Kind::TooDeep)?;
-    }
+    let sums = nest_of("(#1# + 1)");
+    behind_nested(&rt, alloc, front, sums, 31, BEHIND_SUMS)?;
     let front = "task t(A x in f) { int x = (";
-    for back in ["); }", " @+ 1); }"] {
-        let text = nested(alloc, front, sums, 31, back)?;
-        marked(&rt, alloc, text.as_str(), Kind::TooDeep)?;
-    }
-    Ok(())
+    behind_nested(&rt, alloc, front, sums, 31, "); }\n @+ 1); }")
 }

@@ -123,8 +123,7 @@ fn the_first_fault_of_the_tokens(rt: HostRuntime) -> Result<(), Fail> {
     marked_rows(&rt, alloc, &numbers, Kind::NumberRange)
 }
 
-const TOUCHING: &str = r#"
-print(12@ab);
+const TOUCHING: &str = r#"print(12@ab);
 print(0@x1);
 print(1@"a");
 print("a"@1);

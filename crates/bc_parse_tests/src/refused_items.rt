@@ -4,8 +4,7 @@
 use crate::answers::{Kind, marked_lines};
 use std::test::Fail;
 
-const ITEMS: &str = r#"
- // and no more
+const ITEMS: &str = r#" // and no more
 @;
 @}
 @a
@@ -44,8 +43,7 @@ fn items(rt: HostRuntime) -> Result<(), Fail> {
     marked_lines(&rt, rt.alloc(), "", ITEMS, "", Kind::Unexpected)
 }
 
-const MEMBERS: &str = r#"
-@;
+const MEMBERS: &str = r#"@;
 @{ }
 @this
 @class B { }
@@ -116,8 +114,7 @@ fn members(rt: HostRuntime) -> Result<(), Fail> {
     )
 }
 
-const PARAMETERS: &str = r#"
-@
+const PARAMETERS: &str = r#"@
 A@
 A x@
 A x in@
@@ -146,8 +143,7 @@ fn parameters(rt: HostRuntime) -> Result<(), Fail> {
     )
 }
 
-const GUARDS: &str = r#"
-@
+const GUARDS: &str = r#"@
 f
 true
 false and !true

@@ -6,8 +6,7 @@ use std::test::Fail;
 
 const FRONT: &str = "task t(A x in f) { ";
 
-const SIMPLE: &str = r#"
-@;
+const SIMPLE: &str = r#"@;
 @1;
 @(a).b = 1;
 @-a;
@@ -84,8 +83,8 @@ fn declarations_assignments_and_calls(rt: HostRuntime) -> Result<(), Fail> {
     marked_lines(&rt, rt.alloc(), FRONT, SIMPLE, "\n}", Kind::Unexpected)
 }
 
-const LED_BY_A_WORD: &str = r#"
-new A(); new A(1, b); new A(){}; new A(){f := true, g := false, add u};
+const LED_BY_A_WORD: &str =
+    r#"new A(); new A(1, b); new A(){}; new A(){f := true, g := false, add u};
 new A@;
 new @(a);
 new A()@.b();
@@ -181,8 +180,7 @@ fn statements_led_by_a_word(rt: HostRuntime) -> Result<(), Fail> {
     )
 }
 
-const EXPRESSIONS: &str = r#"
-@
+const EXPRESSIONS: &str = r#"@
 (@)
 (b@
 b @c

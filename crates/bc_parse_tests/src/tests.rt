@@ -6,6 +6,7 @@ use bc_data::tree::{Item, ItemText, StatText, Tree};
 use bc_lex::tokens;
 use bc_parse::parse;
 use std::alloc::Global;
+use std::process::Abort;
 use std::test::Fail;
 
 /// What a tree is at a glance: its number of items, and the `Debug` form of the first thing that its last task prints.
@@ -41,32 +42,50 @@ fn task(alloc: Global, statement: &str) -> Result<String, Fail> {
     Ok(format!(in alloc; "task t(StartupObject s in initialstate) {{\n  {statement}")?)
 }
 
+// A text is read as it says.
+fn is_read(rt: &impl Abort, alloc: Global, text: &str, want: &str) -> Result<(), Fail> {
+    assert!(rt; text.len() < 1000);
+    let shown = read(alloc, text)?;
+    assert_eq!(rt; shown.as_str(), want);
+    Ok(())
+}
+
 #[test]
 fn trees(rt: HostRuntime) -> Result<(), Fail> {
     let alloc = rt.alloc();
-    assert_eq!(rt; read(alloc, "")?.as_str(), "0 items");
+    is_read(&rt, alloc, "", "0 items")?;
     let text =
         "class N { flag f; int[] v; N(int a) { this.v = new int[a]; } void m() {} }\ntagtype k;\ntask t(N x in f and !(g or true) with k a and k b) { tag c = new tag(k); x.v[0] = x.v.length; taskexit(x: f := false, add a; y: clear b); }";
-    assert_eq!(rt; read(alloc, text)?.as_str(), "3 items");
-    Ok(())
+    is_read(&rt, alloc, text, "3 items")
 }
 
 #[test]
 fn operators_bind(rt: HostRuntime) -> Result<(), Fail> {
     let alloc = rt.alloc();
     let text = task(alloc, "print(1 - 2 * -3 - 4);\n}")?;
-    let text = text.as_str();
-    assert!(rt; text.len() < 100);
-    assert_eq!(rt;
-        read(alloc, text)?.as_str(),
-        "1 items, Two(Place { line: 2, column: 20 }, Sub, Two(Place { line: 2, column: 11 }, Sub, Int(Place { line: 2, column: 9 }, 1), Two(Place { line: 2, column: 15 }, Mul, Int(Place { line: 2, column: 13 }, 2), Neg(Place { line: 2, column: 17 }, Int(Place { line: 2, column: 18 }, 3)))), Int(Place { line: 2, column: 22 }, 4))"
-    );
-    Ok(())
+    is_read(
+        &rt,
+        alloc,
+        text.as_str(),
+        "1 items, Two(Place { line: 2, column: 20 }, Sub, Two(Place { line: 2, column: 11 }, Sub, Int(Place { line: 2, column: 9 }, 1), Two(Place { line: 2, column: 15 }, Mul, Int(Place { line: 2, column: 13 }, 2), Neg(Place { line: 2, column: 17 }, Int(Place { line: 2, column: 18 }, 3)))), Int(Place { line: 2, column: 22 }, 4))",
+    )
+}
+
+fn is_refused(
+    rt: &impl Abort,
+    alloc: Global,
+    text: &str,
+    line: u32,
+    column: u32,
+) -> Result<(), Fail> {
+    let want = format!(in alloc;
+        "Unexpected {{ at: Place {{ line: {line}, column: {column} }} }}"
+    )?;
+    is_read(rt, alloc, text, want.as_str())
 }
 
 #[test]
 fn refusals(rt: HostRuntime) -> Result<(), Fail> {
-    let alloc = rt.alloc();
     let cases: [(&str, u32, u32); 7] = [
         ("task t(StartupObject s in initialstate) { taskexit(", 1, 52),
         ("class A {\n", 2, 1),
@@ -77,45 +96,30 @@ fn refusals(rt: HostRuntime) -> Result<(), Fail> {
         ("class A {} }", 1, 12),
     ];
     for (text, line, column) in cases {
-        let want = format!(in alloc;
-            "Unexpected {{ at: Place {{ line: {line}, column: {column} }} }}"
-        )?;
-        assert!(rt; text.len() < 100);
-        assert_eq!(rt; read(alloc, text)?.as_str(), want.as_str());
+        is_refused(&rt, rt.alloc(), text, line, column)?;
     }
     Ok(())
 }
 
-/// A task whose statement is a sum with so many operators, the first in column 12.
-fn sum(alloc: Global, operators: usize) -> Result<String, Fail> {
-    let mut text = String::from_str(alloc, "task t(A x in f) {\n  int x = 1")?;
-    for _ in 0..operators {
-        text.push_str("+1")?;
+/// A task whose statement begins with a number or an opening in column 11, with so many more parts behind it.
+fn growing(alloc: Global, part: &str, count: usize, end: &str) -> Result<String, Fail> {
+    let mut text = String::from_str(alloc, "task t(A x in f) {\n  int x = ")?;
+    for _ in 0..count {
+        text.push_str(part)?;
     }
-    text.push_str("; }")?;
+    text.push_str(end)?;
     Ok(text)
 }
 
 #[test]
 fn levels(rt: HostRuntime) -> Result<(), Fail> {
     let alloc = rt.alloc();
-    let sums: [(usize, &str); 2] = [
-        (63, "1 items"),
-        (64, "TooDeep { at: Place { line: 2, column: 138 } }"),
-    ];
-    for (operators, want) in sums {
-        let text = sum(alloc, operators)?;
-        let text = text.as_str();
-        assert!(rt; text.len() < 200);
-        assert_eq!(rt; read(alloc, text)?.as_str(), want);
-    }
-    let mut open = String::from_str(alloc, "task t(A x in f) {\n  int x = ")?;
-    for _ in 0..65 {
-        open.push_str("(")?;
-    }
-    let open = open.as_str();
-    assert!(rt; open.len() < 200);
+    let sum = growing(alloc, "1+", 63, "1; }")?;
+    is_read(&rt, alloc, sum.as_str(), "1 items")?;
+    let sum = growing(alloc, "1+", 64, "1; }")?;
+    let too_deep = "TooDeep { at: Place { line: 2, column: 138 } }";
+    is_read(&rt, alloc, sum.as_str(), too_deep)?;
+    let open = growing(alloc, "(", 65, "")?;
     let too_deep = "TooDeep { at: Place { line: 2, column: 74 } }";
-    assert_eq!(rt; read(alloc, open)?.as_str(), too_deep);
-    Ok(())
+    is_read(&rt, alloc, open.as_str(), too_deep)
 }

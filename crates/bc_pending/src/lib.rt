@@ -5,5 +5,3 @@ pub mod keep;
 pub mod laws;
 pub mod pending;
 mod search;
-#[cfg(test)]
-mod tests;

@@ -1,4 +1,4 @@
-//! Tests of the canonical texts of trees.
+//! Tests of canonical texts, over texts.
 #![tactic(auto)]
 
 #[cfg(test)]

@@ -6,5 +6,3 @@ pub mod id_set;
 mod ordered;
 pub mod place;
 pub mod tag_index;
-#[cfg(test)]
-mod tests;

@@ -3,8 +3,6 @@
 use bc_data::list::{Bytes, List};
 use bc_data::run::{Body, Changes, Kind, TagRef, Value, Written};
 use std::alloc::{AllocError, Global};
-use std::process::Abort;
-use std::test::Fail;
 
 /// A body of these parts.
 pub fn body(
@@ -27,10 +25,22 @@ pub fn numbers(alloc: Global, cells: &[Value]) -> Result<Body, AllocError> {
     body(alloc, Kind::Ints, cells, 0, &[])
 }
 
-/// Writes a body among changes.
-pub fn write(changes: &mut Changes, id: u32, body: Body) -> Result<(), Fail> {
-    changes.bodies.push(Written { id, body })?;
-    Ok(())
+/// Bodies written to the first objects of a store.
+pub fn written(alloc: Global, first: Body, second: Body) -> Result<List<Written>, AllocError> {
+    let mut bodies = List::new(alloc);
+    bodies.push(Written { id: 0, body: first })?;
+    bodies.push(Written {
+        id: 1,
+        body: second,
+    })?;
+    Ok(bodies)
+}
+
+/// A body written to one object.
+pub fn written_to(alloc: Global, id: u32, body: Body) -> Result<List<Written>, AllocError> {
+    let mut bodies = List::new(alloc);
+    bodies.push(Written { id, body })?;
+    Ok(bodies)
 }
 
 /// An array of this many nulls.
@@ -53,31 +63,62 @@ pub fn no_changes(alloc: Global) -> Changes {
     }
 }
 
-/// As many new objects, which have no cells.
-pub fn new_objects(alloc: Global, objects: usize) -> Result<Changes, Fail> {
-    let mut changes = no_changes(alloc);
-    for _ in 0..objects {
-        changes.made.push(nulls(alloc, 0)?)?;
+/// New objects alone.
+pub fn only_made(alloc: Global, made: List<Body>) -> Changes {
+    Changes {
+        bodies: List::new(alloc),
+        made,
+        tags: List::new(alloc),
+        text: Bytes::new(alloc),
     }
-    Ok(changes)
+}
+
+/// As many bodies, which have no cells.
+pub fn empty_bodies(alloc: Global, objects: usize) -> Result<List<Body>, AllocError> {
+    let mut made = List::new(alloc);
+    for _ in 0..objects {
+        made.push(nulls(alloc, 0)?)?;
+    }
+    Ok(made)
+}
+
+/// As many new objects, which have no cells.
+pub fn new_objects(alloc: Global, objects: usize) -> Result<Changes, AllocError> {
+    Ok(only_made(alloc, empty_bodies(alloc, objects)?))
+}
+
+/// Bodies with so many cells.
+pub fn bodies_of(alloc: Global, sizes: &[usize]) -> Result<List<Body>, AllocError> {
+    let mut made = List::new(alloc);
+    for size in sizes {
+        made.push(nulls(alloc, *size)?)?;
+    }
+    Ok(made)
 }
 
 /// New objects with so many cells.
-pub fn new_cells(alloc: Global, sizes: &[usize]) -> Result<Changes, Fail> {
-    let mut changes = no_changes(alloc);
-    for size in sizes {
-        changes.made.push(nulls(alloc, *size)?)?;
-    }
-    Ok(changes)
+pub fn new_cells(alloc: Global, sizes: &[usize]) -> Result<Changes, AllocError> {
+    Ok(only_made(alloc, bodies_of(alloc, sizes)?))
 }
 
-/// As many new instances.
-pub fn new_instances(alloc: Global, instances: usize) -> Result<List<u32>, Fail> {
+/// The types of as many instances.
+pub fn instances(alloc: Global, instances: usize) -> Result<List<u32>, AllocError> {
     Ok(List::from_vec(vec![in alloc; 0; instances]?))
 }
 
+/// As many new instances.
+pub fn new_instances(alloc: Global, count: usize) -> Result<Changes, AllocError> {
+    let tags = instances(alloc, count)?;
+    Ok(Changes {
+        bodies: List::new(alloc),
+        made: List::new(alloc),
+        tags,
+        text: Bytes::new(alloc),
+    })
+}
+
 /// A text of so many bytes, of which there are at most 2 to the power of 25.
-pub fn new_text(alloc: Global, bytes: usize) -> Result<Bytes, Fail> {
+pub fn long_text(alloc: Global, bytes: usize) -> Result<Bytes, AllocError> {
     let mut text = Bytes::from_slice(alloc, b"x")?;
     for _ in 0..25 {
         let mut half = Bytes::from_slice(alloc, text.as_slice())?;
@@ -87,36 +128,26 @@ pub fn new_text(alloc: Global, bytes: usize) -> Result<Bytes, Fail> {
     Ok(text)
 }
 
-/// Asserts that a body is of this kind, and has these cells, flags and instances.
-pub fn has(rt: &impl Abort, body: &Body, kind: Kind, cells: &[Value], flags: u32, tags: &[TagRef]) {
-    assert_eq!(rt; body.kind, kind);
-    assert_eq!(rt; body.cells.as_slice(), cells);
-    assert_eq!(rt; body.flags, flags);
-    assert_eq!(rt; body.tags.as_slice(), tags);
+/// A new text of so many bytes.
+pub fn new_text(alloc: Global, bytes: usize) -> Result<Changes, AllocError> {
+    let text = long_text(alloc, bytes)?;
+    Ok(Changes {
+        bodies: List::new(alloc),
+        made: List::new(alloc),
+        tags: List::new(alloc),
+        text,
+    })
 }
 
-/// Asserts that two bodies have the same parts.
-pub fn same_body(rt: &impl Abort, body: &Body, want: &Body) {
-    has(
-        rt,
-        body,
-        want.kind,
-        want.cells.as_slice(),
-        want.flags,
-        want.tags.as_slice(),
-    );
+/// Whether a body is of this kind, and has these cells, flags and instances.
+pub fn has(body: &Body, kind: Kind, cells: &[Value], flags: u32, tags: &[TagRef]) -> bool {
+    body.kind == kind
+        && body.cells.as_slice() == cells
+        && body.flags == flags
+        && body.tags.as_slice() == tags
 }
 
-/// Asserts that the body written at this place is this one, of the object of the same number.
-pub fn has_written(rt: &impl Abort, changes: &Changes, at: usize, want: &Body) {
-    assert!(rt; at < changes.bodies.len());
-    let written = &changes.bodies[at];
-    assert_eq!(rt; written.id as usize, at);
-    same_body(rt, &written.body, want);
-}
-
-/// Asserts that the new body at this place is this one.
-pub fn has_made(rt: &impl Abort, changes: &Changes, at: usize, want: &Body) {
-    assert!(rt; at < changes.made.len());
-    same_body(rt, &changes.made[at], want);
+/// Whether a body is an array of these numbers.
+pub fn has_numbers(body: &Body, cells: &[Value]) -> bool {
+    has(body, Kind::Ints, cells, 0, &[])
 }

@@ -5,11 +5,9 @@ ghost use Rattle.bc_mean.specs.Commit.{IsMadeValue, IsMadeTag, IsMadeBody};
 ghost use Rattle.bc_store.specs.Store.{CanPublish};
 ghost use Rattle.bc_store_tests.specs.Checked.{Ascend, CanWrite};
 
-use crate::changes::same_body;
-use bc_data::run::{Body, Changes, TagRef, Value, Written};
+use bc_data::run::{Body, Changes, FaultKind, TagRef, Value, Written};
 use bc_store::store::Store;
-use std::process::Abort;
-use std::test::Fail;
+use std::alloc::AllocError;
 
 /// Whether a value names no new object, or one of so many.
 fn is_made_value(made: usize, value: Value) -> bool
@@ -102,27 +100,36 @@ pub fn can_publish(store: &Store, changes: &Changes) -> bool
     ascend(0, changes.bodies.as_slice())
 }
 
-/// Publishes changes in memory that is reserved for them, where they can be published.
-pub fn publish(store: &mut Store, changes: Changes) -> Result<(), Fail> {
+/// Publishes changes in memory that is reserved for them, and says whether they could be published.
+pub fn publish(store: &mut Store, changes: Changes) -> Result<bool, AllocError> {
     if !can_publish(store, &changes) {
-        return Err("changes that cannot be published")?;
+        return Ok(false);
     }
     store.reserve_for(&changes)?;
     store.publish(changes);
-    Ok(())
+    Ok(true)
 }
 
-/// Resolves changes, where they can be published.
-pub fn resolve(store: &Store, changes: &mut Changes) -> Result<(), Fail> {
+/// Resolves changes, and says whether they could be published.
+pub fn resolve(store: &Store, changes: &mut Changes) -> bool {
     if !can_publish(store, changes) {
-        return Err("changes that cannot be published")?;
+        return false;
     }
     store.resolve(changes);
-    Ok(())
+    true
 }
 
-/// Asserts that an object is there, and that its body is this one.
-pub fn has_body(rt: &impl Abort, store: &Store, id: u32, want: &Body) {
-    assert!(rt; id < store.objects());
-    same_body(rt, store.body(id), want);
+/// Whether a store has room for changes.
+pub fn has_room(store: &Store, changes: Changes) -> bool {
+    store.room_for(&changes).is_none()
+}
+
+/// Whether changes would pass limits of a store, of which this is the first.
+pub fn is_past(store: &Store, changes: &Changes, limit: FaultKind) -> bool {
+    store.room_for(changes) == Some(limit)
+}
+
+/// As `is_past`, of changes that are dropped then.
+pub fn passes(store: &Store, changes: Changes, limit: FaultKind) -> bool {
+    is_past(store, &changes, limit)
 }

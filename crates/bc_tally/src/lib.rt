@@ -4,5 +4,3 @@
 mod counts;
 pub mod laws;
 pub mod tally;
-#[cfg(test)]
-mod tests;

@@ -1,4 +1,4 @@
-use Rattle.bc_flags.proofs.tests.a_nested_guard.Given as goal
+use Rattle.bc_book_tests.proofs.guards.a_run_of_flags.Given as goal
 
 abbrev pub ghosts-tells : goal.ghosts-tells
 ghosts-tells g a = record { name = a.blank.name; parts = a.blank.parts }

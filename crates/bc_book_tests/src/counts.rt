@@ -1,10 +1,10 @@
 // Calls in a row, with ample memory.
 
-use crate::tally::Tally;
-use std::test::Fail;
+use bc_tally::tally::Tally;
+use std::alloc::AllocError;
 
 #[test]
-fn counts_what_lists_name(rt: HostRuntime) -> Result<(), Fail> {
+fn counts_what_lists_name(rt: HostRuntime) -> Result<(), AllocError> {
     let mut tally = Tally::make(rt.alloc(), 4)?;
     assert!(rt; tally.is_none(1));
     tally.add(&[1, 2]);
@@ -22,7 +22,7 @@ fn counts_what_lists_name(rt: HostRuntime) -> Result<(), Fail> {
 }
 
 #[test]
-fn passes_over_those_that_it_does_not_count(rt: HostRuntime) -> Result<(), Fail> {
+fn passes_over_those_that_it_does_not_count(rt: HostRuntime) -> Result<(), AllocError> {
     let mut tally = Tally::make(rt.alloc(), 4)?;
     tally.add(&[4, 3]);
     assert!(rt; !tally.is_none(4));

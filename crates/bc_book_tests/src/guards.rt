@@ -2,13 +2,12 @@
 
 ghost use Rattle.std.specs.Prelude.{◌≡◌, ◌<◌};
 
-use crate::guard::guard_of;
 use bc_data::program::FlagExpr;
+use bc_flags::guard::guard_of;
 use bc_steps::Steps;
 use std::alloc::{AllocError, Global};
 use std::marker::Brand;
 use std::sync::ledger::{Blank, Ledger};
-use std::test::Fail;
 
 fn not(alloc: Global, g: FlagExpr) -> Result<FlagExpr, AllocError> {
     Ok(FlagExpr::Not(Box::new(alloc, g)?))
@@ -43,12 +42,17 @@ fn tells<L: Ledger>(
     Ok(true)
 }
 
+// f0 and !f1 and f31
+fn run_of_flags(alloc: Global) -> Result<FlagExpr, AllocError> {
+    let second = not(alloc, FlagExpr::Flag(1))?;
+    let first = and(alloc, FlagExpr::Flag(0), second)?;
+    and(alloc, first, FlagExpr::Flag(31))
+}
+
 #[test]
-fn a_run_of_flags(rt: HostRuntime) -> Result<(), Fail> {
+fn a_run_of_flags(rt: HostRuntime) -> Result<(), AllocError> {
     let alloc = rt.alloc();
-    // f0 and !f1 and f31
-    let first = and(alloc, FlagExpr::Flag(0), not(alloc, FlagExpr::Flag(1))?)?;
-    let guard = and(alloc, first, FlagExpr::Flag(31))?;
+    let guard = run_of_flags(alloc)?;
     let rows = [
         (0x8000_0001, true),
         (0x8000_0003, false),
@@ -60,15 +64,24 @@ fn a_run_of_flags(rt: HostRuntime) -> Result<(), Fail> {
     Ok(())
 }
 
-#[test]
-fn a_nested_guard(rt: HostRuntime) -> Result<(), Fail> {
-    let alloc = rt.alloc();
-    // !((f0 or f1) and !(f2 or false)) and (f3 or true)
+// (f0 or f1) and !(f2 or false)
+fn inner_guard(alloc: Global) -> Result<FlagExpr, AllocError> {
     let low = or(alloc, FlagExpr::Flag(0), FlagExpr::Flag(1))?;
     let third = or(alloc, FlagExpr::Flag(2), FlagExpr::Truth(false))?;
-    let inner = and(alloc, low, not(alloc, third)?)?;
+    and(alloc, low, not(alloc, third)?)
+}
+
+// !((f0 or f1) and !(f2 or false)) and (f3 or true)
+fn nested_guard(alloc: Global) -> Result<FlagExpr, AllocError> {
+    let outer = not(alloc, inner_guard(alloc)?)?;
     let last = or(alloc, FlagExpr::Flag(3), FlagExpr::Truth(true))?;
-    let guard = and(alloc, not(alloc, inner)?, last)?;
+    and(alloc, outer, last)
+}
+
+#[test]
+fn a_nested_guard(rt: HostRuntime) -> Result<(), AllocError> {
+    let alloc = rt.alloc();
+    let guard = nested_guard(alloc)?;
     let rows = [
         (0, true),
         (1, false),

@@ -1,4 +1,4 @@
-use Rattle.bc_failed.proofs.tests.drops_those_that_touched.Given as goal
+use Rattle.bc_book_tests.proofs.pending_list.drops_what_names_the_object.Given as goal
 
 abbrev pub ghosts-drop_counted : goal.ghosts-drop_counted
 ghosts-drop_counted g a = record { name = a.blank.name; parts = a.blank.parts }
