@@ -9,8 +9,11 @@ ghost use Rattle.bc_base.specs.declared.source.ReadFault.TheVariants.{TooLong, F
 use crate::calls::{Calls, next_count};
 use crate::fault::Failed;
 use bc_data::list::{Bytes, List};
+use bc_steps::Steps;
 use std::alloc::{AllocError, Global};
 use std::io::{Read, Stdin};
+use std::marker::Brand;
+use std::sync::ledger::{Blank, Ledger};
 
 /// What gives bytes in pieces.
 pub trait Source {
@@ -76,8 +79,55 @@ pub fn read_all<S: Source>(alloc: Global, source: &mut S, limit: usize) -> Resul
     ensures steady { ¬ IsErrOf result Fault → S.faults source.new ≡ S.faults source.old }
     ensures count { S.faults source.old ≤ S.faults source.new }
 {
+    read_uncounted::<S, Brand>(alloc, source, limit, Blank::new(1))
+}
+
+// The same, where nobody asks for the steps.
+fn read_uncounted<S: Source, L: Ledger>(
+    alloc: Global,
+    source: &mut S,
+    limit: usize,
+    blank: Blank,
+) -> Result<Bytes, ReadFault>
+    requires name { blank.name ≡ L.name }
+    requires parts { blank.parts ≡ L.parts }
+    requires some { 0 < L.parts }
+    ensures within { IfOk result (λ content. length content ≤ limit) }
+    ensures all { IfOk result (λ content. GivesAll (S.left source.old) (S.left source.new) content) }
+    ensures too_long { IsErrOf result TooLong → Loses (S.left source.old) (S.left source.new) (limit + 1) }
+    ensures longer { IsErrOf result TooLong → IfSome (S.left source.old) (λ left. limit < length left) }
+    ensures failed { IsErrOf result Fault → Rose (S.faults source.old) (S.faults source.new) }
+    ensures failed_part { IsErrOf result Fault → LosesUpTo (S.left source.old) (S.left source.new) limit }
+    ensures memory_part { IsErrOf result Memory → LosesUpTo (S.left source.old) (S.left source.new) limit }
+    ensures steady { ¬ IsErrOf result Fault → S.faults source.new ≡ S.faults source.old }
+    ensures count { S.faults source.old ≤ S.faults source.new }
+{
+    let mut steps = Steps::<L>::new(blank);
+    read_all_counted(alloc, source, limit, &mut steps)
+}
+
+/// The same as `read_all`, with its reads counted: one step is one turn of its loop, which reads once.
+/// There are at most `limit + 1` turns, since each but the last takes a byte.
+pub fn read_all_counted<S: Source, L: Ledger>(
+    alloc: Global,
+    source: &mut S,
+    limit: usize,
+    steps: &mut Steps<L>,
+) -> Result<Bytes, ReadFault>
+    ensures within { IfOk result (λ content. length content ≤ limit) }
+    ensures all { IfOk result (λ content. GivesAll (S.left source.old) (S.left source.new) content) }
+    ensures too_long { IsErrOf result TooLong → Loses (S.left source.old) (S.left source.new) (limit + 1) }
+    ensures longer { IsErrOf result TooLong → IfSome (S.left source.old) (λ left. limit < length left) }
+    ensures failed { IsErrOf result Fault → Rose (S.faults source.old) (S.faults source.new) }
+    ensures failed_part { IsErrOf result Fault → LosesUpTo (S.left source.old) (S.left source.new) limit }
+    ensures memory_part { IsErrOf result Memory → LosesUpTo (S.left source.old) (S.left source.new) limit }
+    ensures steady { ¬ IsErrOf result Fault → S.faults source.new ≡ S.faults source.old }
+    ensures count { S.faults source.old ≤ S.faults source.new }
+    ensures turns { steps.new ≤ steps.old + (limit + 1) }
+{
     let mut content = Bytes::new(alloc);
     loop {
+        steps.tick();
         if read_piece(source, limit, &mut content)? == 0 {
             return Ok(content);
         }

@@ -6,13 +6,11 @@ ghost use Rattle.std.specs.Prelude.{◌≤◌, length};
 use anyhow::{Error, Result};
 use bc_data::program::Program;
 use bc_gen_stmt::generate;
-use bc_lex::tokens;
+use bc_law_histories::start_fits;
 use bc_machine::machine::Ended;
 use bc_machine::plain::{Run, run_over};
 use bc_mean::{all_enabled, is_enabled, start};
-use bc_parse::parse;
-use bc_replay::start_fits;
-use bc_types::check;
+use bc_read::reader::read_program;
 use std::alloc::Global;
 use std::io::Read;
 
@@ -20,18 +18,11 @@ use std::io::Read;
 const TEXT_LIMIT: usize = 1_048_576;
 
 // The program of a text.
-#[tactic(auto, using(bc_parse::proofs::Lexed::ended, bc_accepted::proofs::Accepted::grammatical))]
 fn accepted(alloc: Global, text: &[u8]) -> Result<Program>
     requires { length text.now ≤ 1048576 }
 {
-    let Ok(found) = tokens(alloc, text) else {
-        return Err(Error::msg("the text has no tokens"));
-    };
-    let Ok(tree) = parse(alloc, text, &found) else {
-        return Err(Error::msg("the text has no tree"));
-    };
-    match check(alloc, &tree) {
-        Ok(program) => Ok(program),
+    match read_program(alloc, text) {
+        Ok(read) => Ok(read.program),
         Err(_) => Err(Error::msg("the text is no program")),
     }
 }

@@ -21,29 +21,29 @@ use Rattle.bc_mean.specs.Outcome.{body_outcome, outcome, place_of, refused_room,
 use Rattle.bc_mean.specs.Serial.{Failed, has_failure, is_crowded, listed, same_invocation}
 use Rattle.bc_mean.specs.Store.{Fits}
 use Rattle.bc_mean.proofs.Lists.{each_weaker}
-use Rattle.bc_commits.proofs.Published.{commits_can_be_published}
+use Rattle.bc_law_publishing.proofs.Published.{commits_can_be_published}
 use Rattle.bc_pending.specs.Lists.{HasObjects}
-use Rattle.bc_room.specs.Sizes.{HasLike}
-use Rattle.bc_room.proofs.Growth.{keeps_kinds}
-use Rattle.bc_runs.proofs.Sound.{run_laws}
+use Rattle.bc_law_room.specs.Sizes.{HasLike}
+use Rattle.bc_law_room.proofs.Growth.{keeps_kinds}
+use Rattle.bc_law_core.proofs.Sound.{run_laws}
 use Rattle.bc_store.specs.Resolved.{resolved}
 use Rattle.bc_store.specs.Store.{CanPublish}
-use Rattle.bc_moves.specs.Moves.{KindsStay, guard_tests}
-use Rattle.bc_data.specs.Program.{Parts}
+use Rattle.bc_book_reshaped.specs.Reshaped.{KindsStay, guard_tests}
+use Rattle.bc_data.specs.Typed.{TypedProgram}
 use Rattle.bc_params.specs.Look.{class_of}
 use Rattle.std.proofs.lemmas.List.Sums.{sum_by-cons}
-use Rattle.bc_events.specs.declared.answers.Commit.TheVariants as ends
-use Rattle.bc_events.specs.Book.{BookState, is_running}
-use Rattle.bc_events.specs.Events.{answers, commit_to, over}
-use Rattle.bc_events.specs.Moves.{MovesOnly, failures_dropped, is_wanted, names_any}
-use Rattle.bc_events.specs.Steps.{committed, failures_left}
-use Rattle.bc_events.proofs.CommitFound.{commit_met}
-use Rattle.bc_events.proofs.Exact.{each_itself}
-use Rattle.bc_events.proofs.Named.{enabled_names}
-use Rattle.bc_search.specs.Search.{AreOf, IsFound, kept_behind}
+use Rattle.bc_book_events.specs.declared.answers.Commit.TheVariants as ends
+use Rattle.bc_book_events.specs.Book.{BookState, is_running}
+use Rattle.bc_book_events.specs.Events.{answers, commit_to, over}
+use Rattle.bc_book_events.specs.Reshaped.{ReshapesOnly, failures_dropped, is_wanted, names_any}
+use Rattle.bc_book_events.specs.Steps.{committed, failures_left}
+use Rattle.bc_book_events.proofs.CommitFound.{commit_met}
+use Rattle.bc_book_events.proofs.Exact.{each_itself}
+use Rattle.bc_book_events.proofs.Named.{enabled_names}
+use Rattle.bc_book_lists.specs.Search.{AreOf, IsFound, kept_behind}
 use Rattle.bc_mean.specs.Work.{look_of}
-use Rattle.bc_sets.specs.Kept.{AreSets}
-use Rattle.bc_events.specs.Sound.{IsSoundBook}
+use Rattle.bc_params_sets.specs.Kept.{AreSets}
+use Rattle.bc_book_events.specs.Sound.{IsSoundBook}
 use Rattle.std.specs.declared.alloc.Global.{Global}
 use Rattle.std.proofs.Common.{Vec}
 use Rattle.bc_failed.specs.Records.{Records}
@@ -109,7 +109,7 @@ module _ (b : BookState) (worker : ℕ) (v : Invocation) (c : Changes) (m : MayC
   pub ids : map (λ (w : Written). w.id) (resolved b.store c).bodies ≡ map (λ (w : Written). w.id) c.bodies
   ids = same_ids b.store c.bodies
 
-  module _ (moved changed : List ℕ) (found : List Invocation) (falls : Bool) (moves : MovesOnly moved b.store (apply_changes b.store c)) (writes : changed ≡ map (λ (w : Written). w.id) c.bodies) (is : IsFound b (apply_changes b.store c) worker v moved changed found falls) where
+  module _ (reshaped changed : List ℕ) (found : List Invocation) (falls : Bool) (reshapes : ReshapesOnly reshaped b.store (apply_changes b.store c)) (writes : changed ≡ map (λ (w : Written). w.id) c.bodies) (is : IsFound b (apply_changes b.store c) worker v reshaped changed found falls) where
     few : length (apply_changes b.store c).bodies ≤ 65536
     few = omega (arith, (keeps_kinds.body b.program b.store v c m.exits).sums.objects, can.there.objects)
 
@@ -117,7 +117,7 @@ module _ (b : BookState) (worker : ℕ) (v : Invocation) (c : Changes) (m : MayC
     each_wanted =
         each_weaker (λ w. listed found w ≡ true) (λ w. (is_enabled b.program (apply_changes b.store c) w ≡ true) × (listed b.pending w ≡ false) × (is_running (set b.running worker None) w ≡ false))
         (λ w h.
-        wanted_parts (is_enabled b.program (apply_changes b.store c) w) (names_any moved w) (has_failure (failures_dropped changed b.failures) w) (same_invocation w v) (listed b.pending w) (is_running (set b.running worker None) w) (has_failure (failures_left changed b.failures) w)
+        wanted_parts (is_enabled b.program (apply_changes b.store c) w) (names_any reshaped w) (has_failure (failures_dropped changed b.failures) w) (same_invocation w v) (listed b.pending w) (is_running (set b.running worker None) w) (has_failure (failures_left changed b.failures) w)
         (sym (is.appended.members w) ∙ h))
         found (each_itself found)
 
@@ -137,7 +137,7 @@ module _ (b : BookState) (worker : ℕ) (v : Invocation) (c : Changes) (m : MayC
       objects = All-from_recursion HasObjects found (each_weaker _ HasObjects (λ w h. its_objects w h.0) found each_wanted);
     }
 
-    its_pending : (f : Bool) → falls ≡ f → cond f (filter (λ w. not (names_any moved w) || is_enabled b.program (apply_changes b.store c) w) b.pending) b.pending ≡ kept_behind b (apply_changes b.store c) moved
+    its_pending : (f : Bool) → falls ≡ f → cond f (filter (λ w. not (names_any reshaped w) || is_enabled b.program (apply_changes b.store c) w) b.pending) b.pending ≡ kept_behind b (apply_changes b.store c) reshaped
     its_pending true e = refl
     its_pending false e = sym (is.stay e)
 
@@ -146,13 +146,13 @@ module _ (b : BookState) (worker : ℕ) (v : Invocation) (c : Changes) (m : MayC
         ≡ record b {
           store = apply_changes b.store c;
           history = b.history ++ v ∷ [];
-          pending = cond falls (filter (λ w. not (names_any moved w) || is_enabled b.program (apply_changes b.store c) w) b.pending) b.pending ++ found;
+          pending = cond falls (filter (λ w. not (names_any reshaped w) || is_enabled b.program (apply_changes b.store c) w) b.pending) b.pending ++ found;
           running = set b.running worker None;
           failures = failures_left changed b.failures;
         }
     settled =
-        commit_met b worker v c moved found m.sound m.held fits m.exits moves is.appended.ascending
-        (λ w. is.appended.members w ∙ ap (λ (l : List ℕ). is_enabled b.program (apply_changes b.store c) w && is_wanted moved l worker v b w) writes)
+        commit_met b worker v c reshaped found m.sound m.held fits m.exits reshapes is.appended.ascending
+        (λ w. is.appended.members w ∙ ap (λ (l : List ℕ). is_enabled b.program (apply_changes b.store c) w && is_wanted reshaped l worker v b w) writes)
         ∙ ap₂ (λ (front : List Invocation) (l : List ℕ). with_lists (front ++ found) (failures_left l b.failures)) (sym (its_pending falls refl)) (sym writes)
       where
         with_lists : List Invocation → List Failed → BookState
@@ -231,7 +231,7 @@ sum_mapped : {X : Type 0} (f : X → ℕ) (m : X → X) → ((x : X) → f (m x)
 sum_mapped f m h [] = refl
 sum_mapped f m h (x ∷ xs) = sum_by-cons f (m x) (map m xs) ∙ (ap₂ (λ (a b : ℕ). a + b) (h x) (sum_mapped f m h xs) ∙ sym (sum_by-cons f x xs))
 
-pub same_tests : (P : Parts) (S : Plain) (c : Changes) → guard_tests P (resolved S c) ≡ guard_tests P c
+pub same_tests : (P : TypedProgram) (S : Plain) (c : Changes) → guard_tests P (resolved S c) ≡ guard_tests P c
 same_tests P S c =
     ap₂ (λ (a b : ℕ). a + b)
     (sum_mapped (λ (w : Written). params_of (class_of w.body.kind) P.tasks) (written_in S) (λ w. refl) c.bodies)

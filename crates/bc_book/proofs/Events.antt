@@ -13,14 +13,14 @@ use Rattle.bc_mean.specs.Enabled.{is_enabled}
 use Rattle.bc_mean.specs.Serial.{listed, same_invocation}
 use Rattle.bc_code.specs.Given.{given_look, ids_of}
 use Rattle.bc_step.specs.Area.{AreaParts, given_of}
-use Rattle.bc_runs.specs.Areas.{changes_of, moved_in}
+use Rattle.bc_law_core.specs.Areas.{changes_of, moved_in}
 use Rattle.bc_book.specs.Ends.{commits, fails}
-use Rattle.bc_events.specs.declared.answers.Begun.TheVariants as begins
-use Rattle.bc_events.specs.declared.answers.Failing.TheVariants as failing
-use Rattle.bc_events.specs.declared.answers.Taken.TheVariants as taken
-use Rattle.bc_events.specs.Book.{BookState, held_by, is_at_rest}
-use Rattle.bc_events.specs.Events.{answers, begin, commit, commit_unless, commit_unmoved, commit_with_room, fail, fail_unmoved, given_up, halt, lose, pick, take, take_found, take_unless}
-use Rattle.bc_events.specs.Steps.{freed, given, put_back, recorded, stopped}
+use Rattle.bc_book_events.specs.declared.answers.Begun.TheVariants as begins
+use Rattle.bc_book_events.specs.declared.answers.Failing.TheVariants as failing
+use Rattle.bc_book_events.specs.declared.answers.Taken.TheVariants as taken
+use Rattle.bc_book_events.specs.Book.{BookState, held_by, is_at_rest}
+use Rattle.bc_book_events.specs.Events.{answers, begin, commit, commit_unless, commit_unmoved, commit_with_room, fail, fail_unmoved, given_up, halt, lose, pick, take, take_found, take_unless}
+use Rattle.bc_book_events.specs.Steps.{freed, given, put_back, recorded, stopped}
 
 module _ (b : BookState) (worker : ℕ) (allows : Invocation → Bool) where
   pub take_over : (s : Stop) → b.stop ≡ Some s → take worker allows b ≡ answers (taken.Over s) b

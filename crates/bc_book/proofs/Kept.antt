@@ -2,9 +2,9 @@
 use Rattle.std.proofs.Common.{◌≡◌, ◌∙◌, length, ap, sym, Option}
 use Rattle.bc_data.specs.declared.run.Stop.{Stop}
 use Rattle.bc_pending.specs.Lists.{Lists}
-use Rattle.bc_events.specs.Book.{BookState}
-use Rattle.bc_events.specs.Events.{Step}
-use Rattle.bc_events.specs.Sound.{IsSoundBook}
+use Rattle.bc_book_events.specs.Book.{BookState}
+use Rattle.bc_book_events.specs.Events.{Step}
+use Rattle.bc_book_events.specs.Sound.{IsSoundBook}
 use Rattle.bc_book.specs.declared.book.Book.TheInside.{Inside}
 use Rattle.bc_book.specs.Kept.{IsKept, state_of}
 

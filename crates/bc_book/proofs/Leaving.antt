@@ -4,13 +4,13 @@ use Rattle.std.specs.Prelude.{option_to_list, slice_set}
 use Rattle.bc_data.specs.declared.run.Invocation.{Invocation}
 use Rattle.bc_mean.specs.Enabled.{is_enabled}
 use Rattle.bc_pending.specs.Lists.{Lists}
-use Rattle.bc_events.specs.declared.answers.Begun.{Begun}
-use Rattle.bc_events.specs.declared.answers.Begun.TheVariants as begins
-use Rattle.bc_events.specs.Book.{BookState, held_by}
-use Rattle.bc_events.specs.Events.{Step, answers, begin}
-use Rattle.bc_events.specs.Sound.{IsSoundBook}
-use Rattle.bc_events.specs.SoundLaws.{KeepsSoundBook}
-use Rattle.bc_events.specs.Steps.{put_back}
+use Rattle.bc_book_events.specs.declared.answers.Begun.{Begun}
+use Rattle.bc_book_events.specs.declared.answers.Begun.TheVariants as begins
+use Rattle.bc_book_events.specs.Book.{BookState, held_by}
+use Rattle.bc_book_events.specs.Events.{Step, answers, begin}
+use Rattle.bc_book_events.specs.Sound.{IsSoundBook}
+use Rattle.bc_book_events.specs.SoundLaws.{KeepsSoundBook}
+use Rattle.bc_book_events.specs.Steps.{put_back}
 use Rattle.bc_book.specs.declared.book.Book.TheInside.{Inside}
 use Rattle.bc_book.specs.Kept.{IsKept, state_of}
 use Rattle.bc_book.proofs.Events.{begin_as, lose_as}

@@ -11,15 +11,15 @@ use Rattle.bc_mean.specs.Work.{look_of}
 use Rattle.bc_mean.proofs.Orders.{listed_filter}
 use Rattle.bc_store.specs.Resolved.{IsResolved}
 use Rattle.bc_store.specs.Store.{CanPublish}
-use Rattle.bc_sets.specs.Kept.{AreSets, Kept}
-use Rattle.bc_moves.specs.declared.moved.Moved.{Moved}
-use Rattle.bc_moves.specs.Laws.{MovesAreAll}
-use Rattle.bc_moves.specs.Moves.{id_of, moves_in}
-use Rattle.bc_events.specs.Book.{BookState}
-use Rattle.bc_events.specs.Moves.{MovesOnly}
+use Rattle.bc_params_sets.specs.Kept.{AreSets, Kept}
+use Rattle.bc_book_reshaped.specs.declared.reshaped.Reshaped.{Reshaped}
+use Rattle.bc_book_reshaped.specs.Laws.{ReshapedAreAll}
+use Rattle.bc_book_reshaped.specs.Reshaped.{id_of, reshaped_in}
+use Rattle.bc_book_events.specs.Book.{BookState}
+use Rattle.bc_book_events.specs.Reshaped.{ReshapesOnly}
 use Rattle.bc_mean.specs.Serial.{is_crowded}
-use Rattle.bc_search.specs.declared.find.Found.{Found}
-use Rattle.bc_search.specs.Search.{AreBooks, AreOf, IsBefore, IsFound, IsSearch}
+use Rattle.bc_book_lists.specs.declared.find.Found.{Found}
+use Rattle.bc_book_lists.specs.Search.{AreBooks, AreOf, IsBefore, IsFound, IsSearch}
 use Rattle.bc_book.specs.Commits.{ArePartsOf}
 
 pub on_err : {A E : Type 0} (r : Result A E) (X : Type 0) → X → OnErr r X
@@ -37,12 +37,12 @@ none_of r o X is none h = subst (λ (q : Option _). IfNone q X) none (subst (λ 
 
 -- what the search says that found something, and one that found too many
 abbrev pub WillFind : Invocation → List ℕ → List ℕ → List Invocation → List (Option Invocation) → List Failed → Kept → List Invocation → ℕ → Found → Type 0
-WillFind v moved changed vs held fs kept named enabled f =
-    (b : BookState) (T : Plain) (worker : ℕ) → IsSearch b T worker v moved → AreBooks b vs held fs → AreOf b.program T kept → IsBefore b moved named enabled → IsFound b T worker v moved changed f.appended f.falls
+WillFind v reshaped changed vs held fs kept named enabled f =
+    (b : BookState) (T : Plain) (worker : ℕ) → IsSearch b T worker v reshaped → AreBooks b vs held fs → AreOf b.program T kept → IsBefore b reshaped named enabled → IsFound b T worker v reshaped changed f.appended f.falls
 
 abbrev pub WillCrowd : Invocation → List ℕ → List Invocation → List (Option Invocation) → List Failed → Kept → List Invocation → ℕ → Type 0
-WillCrowd v moved vs held fs kept named enabled =
-    (b : BookState) (T : Plain) (worker : ℕ) → IsSearch b T worker v moved → AreBooks b vs held fs → AreOf b.program T kept → IsBefore b moved named enabled → is_crowded b.program T ≡ true
+WillCrowd v reshaped vs held fs kept named enabled =
+    (b : BookState) (T : Plain) (worker : ℕ) → IsSearch b T worker v reshaped → AreBooks b vs held fs → AreOf b.program T kept → IsBefore b reshaped named enabled → is_crowded b.program T ≡ true
 
 pub none_left : (falls : Bool) (p : Invocation → Bool) (vs : List Invocation) (w : Invocation) → listed vs w ≡ false → listed (cond falls (filter p vs) vs) w ≡ false
 none_left true p vs w h = listed_filter p vs w ∙ ap (λ (b : Bool). b && p w) h
@@ -64,10 +64,10 @@ module _ (b : BookState) (worker : ℕ) (v : Invocation) (S S1 : Plain) (c : Cha
   pub sets_behind : (l : Kept) → AreSets b.program (look_of (apply_changes S1 c)) (apply_changes S1 c).tags l → AreOf b.program (apply_changes b.store c) l
   sets_behind l are = subst (λ (X : Plain). AreOf b.program (apply_changes X c) l) (sym own) (record { typed = p.sound.typed; sets = are })
 
-  pub its_moves : MovesAreAll → (moved : List ℕ) (ms : List Moved) → moved ≡ map id_of ms → ms ≡ moves_in S1 c → CanPublish S c → IsResolved c → MovesOnly moved b.store (apply_changes b.store c)
-  its_moves law moved ms e is can resolved =
-      subst (λ (l : List ℕ). MovesOnly l b.store (apply_changes b.store c)) (sym (e ∙ ap (map id_of) is))
-      (subst (λ (X : Plain). MovesOnly (map id_of (moves_in S1 c)) X (apply_changes X c)) (sym own) (law S1 c (subst (λ (X : Plain). CanPublish X c) (sym same) can) resolved))
+  pub its_reshaped : ReshapedAreAll → (reshaped : List ℕ) (ms : List Reshaped) → reshaped ≡ map id_of ms → ms ≡ reshaped_in S1 c → CanPublish S c → IsResolved c → ReshapesOnly reshaped b.store (apply_changes b.store c)
+  its_reshaped law reshaped ms e is can resolved =
+      subst (λ (l : List ℕ). ReshapesOnly l b.store (apply_changes b.store c)) (sym (e ∙ ap (map id_of) is))
+      (subst (λ (X : Plain). ReshapesOnly (map id_of (reshaped_in S1 c)) X (apply_changes X c)) (sym own) (law S1 c (subst (λ (X : Plain). CanPublish X c) (sym same) can) resolved))
 
-  pub its_search : (moved : List ℕ) → MovesOnly moved b.store (apply_changes b.store c) → IsSearch b (apply_changes b.store c) worker v moved
-  its_search moved moves = record { sound = p.sound; held = p.has; fits = p.fits; moves = moves }
+  pub its_search : (reshaped : List ℕ) → ReshapesOnly reshaped b.store (apply_changes b.store c) → IsSearch b (apply_changes b.store c) worker v reshaped
+  its_search reshaped reshapes = record { sound = p.sound; held = p.has; fits = p.fits; reshapes = reshapes }

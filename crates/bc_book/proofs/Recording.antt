@@ -5,22 +5,21 @@ use Rattle.std.specs.Prelude.{All, nat_lt}
 use Rattle.std.specs.List.{AllByRecursion}
 use Rattle.std.proofs.lemmas.List.{length-map}
 use Rattle.std.proofs.lemmas.List.Elements.{recursion_from_All}
-use Rattle.bc_data.specs.Program.{Parts}
-use Rattle.bc_data.specs.ProgramView.{view_program, view_program_param}
+use Rattle.bc_data.specs.Typed.{TypedProgram}
 use Rattle.bc_data.specs.WellTyped.{IsWellTyped}
 use Rattle.bc_data.specs.declared.run.Invocation.{Invocation}
 use Rattle.bc_mean.specs.declared.plain.Plain.{Plain}
 use Rattle.bc_mean.specs.Enabled.{IsEnabled, all_enabled, are_different}
 use Rattle.bc_mean.specs.Serial.{Failed, has_failure}
-use Rattle.bc_local.proofs.Runs.{touched_from_the_parameters}
-use Rattle.bc_runs.proofs.Sound.{run_laws}
-use Rattle.bc_events.specs.Book.{BookState, held_by}
-use Rattle.bc_events.specs.Sound.{IsSoundBook, StillFails}
-use Rattle.bc_events.specs.Steps.{recorded}
-use Rattle.bc_events.proofs.Counted.{enabled_counted}
-use Rattle.bc_events.proofs.Moves.{typed_task}
-use Rattle.bc_events.proofs.Named.{enabled_names}
-use Rattle.bc_events.proofs.Running.{held_here}
+use Rattle.bc_law_locality.proofs.Runs.{touched_from_the_parameters}
+use Rattle.bc_law_core.proofs.Sound.{run_laws}
+use Rattle.bc_book_events.specs.Book.{BookState, held_by}
+use Rattle.bc_book_events.specs.Sound.{IsSoundBook, StillFails}
+use Rattle.bc_book_events.specs.Steps.{recorded}
+use Rattle.bc_book_events.proofs.Counted.{enabled_counted}
+use Rattle.bc_book_events.proofs.Reshaped.{typed_task}
+use Rattle.bc_book_events.proofs.Named.{enabled_names}
+use Rattle.bc_book_events.proofs.Running.{held_here}
 
 nat_lt_false : (m n : ℕ) → nat_lt m n ≡ false → n ≤ m
 nat_lt_false m n e = grind (arith, nat_tests, e)
@@ -34,13 +33,13 @@ pub record Addable (fs : List Failed) (f : Failed) : Type 0 where
   pub below : All (λ id. id < 65536) f.touched
 
 -- what an enabled invocation touches
-some_objects : (P : Parts) (S : Plain) (v : Invocation) → IsWellTyped (view_program P) → IsEnabled P S v → 1 ≤ length v.objects
+some_objects : (P : TypedProgram) (S : Plain) (v : Invocation) → IsWellTyped P → IsEnabled P S v → 1 ≤ length v.objects
 some_objects P S v typed e =
     let named = enabled_names.enabled P S v typed e in
     let some = (typed_task P typed v.task named.task named.here).some_params in
-    omega (arith, some, named.params, length-map named.task.params.items view_program_param)
+    omega (arith, some, named.params)
 
-last_stands : (P : Parts) (S : Plain) (fs : List Failed) (f : Failed) → AllByRecursion (StillFails P S) (fs ++ f ∷ []) → StillFails P S f
+last_stands : (P : TypedProgram) (S : Plain) (fs : List Failed) (f : Failed) → AllByRecursion (StillFails P S) (fs ++ f ∷ []) → StillFails P S f
 last_stands P S [] f a = a.0
 last_stands P S (g ∷ gs) f a = last_stands P S gs f a.1
 

@@ -5,12 +5,12 @@ use Rattle.std.proofs.lemmas.Bool.{cases_Bool, false≢true}
 use Rattle.bc_data.specs.declared.run.Invocation.{Invocation}
 use Rattle.bc_mean.specs.Serial.{listed, same_invocation}
 use Rattle.bc_pending.specs.Lists.{Lists, Moves}
-use Rattle.bc_events.specs.declared.answers.Taken.{Taken}
-use Rattle.bc_events.specs.declared.answers.Taken.TheVariants as taken
-use Rattle.bc_events.specs.Book.{held_by, is_at_rest}
-use Rattle.bc_events.specs.Events.{Step, answers, pick, take}
-use Rattle.bc_events.specs.SoundLaws.{KeepsSoundBook}
-use Rattle.bc_events.specs.Sound.{IsSoundBook}
+use Rattle.bc_book_events.specs.declared.answers.Taken.{Taken}
+use Rattle.bc_book_events.specs.declared.answers.Taken.TheVariants as taken
+use Rattle.bc_book_events.specs.Book.{held_by, is_at_rest}
+use Rattle.bc_book_events.specs.Events.{Step, answers, pick, take}
+use Rattle.bc_book_events.specs.SoundLaws.{KeepsSoundBook}
+use Rattle.bc_book_events.specs.Sound.{IsSoundBook}
 use Rattle.bc_book.specs.declared.book.Book.TheInside.{Inside}
 use Rattle.bc_book.specs.Kept.{IsKept, state_of}
 use Rattle.bc_book.proofs.Events.{pick_as, take_as}

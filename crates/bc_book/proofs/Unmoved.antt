@@ -8,10 +8,10 @@ use Rattle.std.proofs.lemmas.List.Elements.{All-from_recursion, recursion_from_A
 use Rattle.bc_data.specs.declared.run.Body.{Body}
 use Rattle.bc_data.specs.declared.run.Written.{Written}
 use Rattle.bc_mean.specs.declared.plain.Plain.{Plain}
-use Rattle.bc_local.specs.Growth.{has}
+use Rattle.bc_law_locality.specs.Growth.{has}
 use Rattle.bc_code.specs.Given.{given_look, ids_of}
-use Rattle.bc_runs.proofs.Standing.{each_in}
-use Rattle.bc_events.specs.Events.{first_moved, is_moved}
+use Rattle.bc_law_core.proofs.Standing.{each_in}
+use Rattle.bc_book_events.specs.Events.{first_moved, is_moved}
 
 pub given_has : (gs : List Written) (id : ℕ) → has (ids_of gs) id ≡ true → (b : Body) × (given_look gs id ≡ Some b)
 given_has [] id h = absurd (false≢true h)

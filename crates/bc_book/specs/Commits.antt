@@ -10,12 +10,12 @@ use Rattle.bc_mean.specs.Orders.{IsAscending}
 use Rattle.bc_mean.specs.Outcome.{body_outcome}
 use Rattle.bc_mean.specs.Serial.{Failed, listed}
 use Rattle.bc_mean.specs.Store.{Fits}
-use Rattle.bc_sets.specs.Kept.{Kept}
+use Rattle.bc_params_sets.specs.Kept.{Kept}
 use Rattle.bc_pending.specs.Lists.{HasObjects, is_held}
-use Rattle.bc_events.specs.Book.{BookState, held_by}
-use Rattle.bc_events.specs.Moves.{MovesOnly}
-use Rattle.bc_events.specs.Sound.{IsSoundBook}
-use Rattle.bc_search.specs.Search.{AreBooks, AreOf, IsFound}
+use Rattle.bc_book_events.specs.Book.{BookState, held_by}
+use Rattle.bc_book_events.specs.Reshaped.{ReshapesOnly}
+use Rattle.bc_book_events.specs.Sound.{IsSoundBook}
+use Rattle.bc_book_lists.specs.Search.{AreBooks, AreOf, IsFound}
 
 -- the worker's invocation v exits with these changes in the store of the sound book, and there is room for them
 pub record MayCommit (b : BookState) (worker : ℕ) (v : Invocation) (c : Changes) : Type 0 where
@@ -35,10 +35,10 @@ pub record ArePartsOf (b : BookState) (worker : ℕ) (v : Invocation) (S : Plain
   pub sets : AreOf b.program b.store kept
 
 -- What is ready for the commit: the objects that move, those that change, what is appended, and the sets of the store behind it.
-pub record IsReady (b : BookState) (c : Changes) (worker : ℕ) (v : Invocation) (moved changed : List ℕ) (found : List Invocation) (falls : Bool) (kept : Kept) : Type 0 where
-  pub moves : MovesOnly moved b.store (apply_changes b.store c)
+pub record IsReady (b : BookState) (c : Changes) (worker : ℕ) (v : Invocation) (reshaped changed : List ℕ) (found : List Invocation) (falls : Bool) (kept : Kept) : Type 0 where
+  pub reshapes : ReshapesOnly reshaped b.store (apply_changes b.store c)
   pub writes : changed ≡ map (λ w. w.id) c.bodies
-  pub is_found : IsFound b (apply_changes b.store c) worker v moved changed found falls
+  pub is_found : IsFound b (apply_changes b.store c) worker v reshaped changed found falls
   pub sets : AreOf b.program (apply_changes b.store c) kept
 
 -- these may be appended where the worker's invocation is dropped

@@ -1,9 +1,9 @@
 -- What a book keeps.
 use Rattle.std.specs.Prelude.{◌≡◌, ◌≤◌, length}
 use Rattle.bc_mean.specs.Work.{look_of}
-use Rattle.bc_sets.specs.Kept.{AreSets}
-use Rattle.bc_events.specs.Book.{BookState}
-use Rattle.bc_events.specs.Sound.{IsSoundBook}
+use Rattle.bc_params_sets.specs.Kept.{AreSets}
+use Rattle.bc_book_events.specs.Book.{BookState}
+use Rattle.bc_book_events.specs.Sound.{IsSoundBook}
 use Rattle.bc_book.specs.declared.book.Book.TheInside.{Inside}
 
 -- the parts that contracts see

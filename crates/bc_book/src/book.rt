@@ -5,36 +5,35 @@ ghost use Rattle.bc_data.specs.declared.run.Invocation.{Invocation as Call};
 ghost use Rattle.bc_mean.specs.Enabled.{is_enabled};
 ghost use Rattle.bc_failed.specs.Ordered.{ordered};
 ghost use Rattle.bc_pending.specs.Lists.{is_allowed};
-ghost use Rattle.bc_events.specs.Book.{held_by};
-ghost use Rattle.bc_events.specs.Events.{begin, given_up, halt, lose, pick, take};
-ghost use Rattle.bc_events.specs.Sound.{IsSoundBook};
-ghost use Rattle.bc_events.specs.SoundLaws.{book_at_start};
-ghost use Rattle.bc_events.specs.Steps.{recorded};
-ghost use Rattle.bc_events.specs.SoundLaws.{EndsSo};
-ghost use Rattle.bc_events.specs.Events.{commit_to, commit_with_room, over};
+ghost use Rattle.bc_book_events.specs.Book.{held_by};
+ghost use Rattle.bc_book_events.specs.Events.{begin, given_up, halt, lose, pick, take};
+ghost use Rattle.bc_book_events.specs.Sound.{IsSoundBook};
+ghost use Rattle.bc_book_events.specs.SoundLaws.{book_at_start};
+ghost use Rattle.bc_book_events.specs.Steps.{recorded};
+ghost use Rattle.bc_book_events.specs.SoundLaws.{EndsSo};
+ghost use Rattle.bc_book_events.specs.Events.{commit_to, commit_with_room, over};
 ghost use Rattle.bc_data.specs.declared.run.Ran.TheVariants as ran;
 ghost use Rattle.bc_mean.specs.Changes.{apply_changes, fault_of_room};
 ghost use Rattle.bc_mean.specs.Enabled.{IsEnabled};
 ghost use Rattle.bc_mean.specs.Outcome.{body_outcome, place_of};
 ghost use Rattle.bc_machine.specs.Running.{IsAtExit, IsAtFault};
-ghost use Rattle.bc_runs.specs.Areas.{WasEnabled, changes_of};
+ghost use Rattle.bc_law_core.specs.Areas.{WasEnabled, changes_of};
 ghost use Rattle.bc_book.specs.Ends.{AreaAfter, TestsAtMost, commits, fails};
-ghost use Rattle.bc_moves.specs.Moves.{guard_tests};
+ghost use Rattle.bc_book_reshaped.specs.Reshaped.{guard_tests};
 
 use crate::commit::{make_ready, push_in, renew};
 use crate::moved::first_moved;
 use crate::parts::{add_failure, bodies_of, is_at_rest, pending_at_start, release};
+use bc_book_events::laws::{enabled_names, keeps_sound_book};
+use bc_book_events::{Begun, Commit, Failing, Taken};
+use bc_book_lists::drops::drop_touching;
 use bc_data::list::{Bytes, List};
 use bc_data::program::Program;
-use bc_data::run::{Body, Changes, Fault, History, Invocation, Place, Stop};
+use bc_data::run::{Body, Changes, Failure, Fault, History, Invocation, Place, Stop};
 use bc_data::task_set::TaskSet;
-use bc_events::laws::{enabled_names, keeps_sound_book};
-use bc_events::{Begun, Commit, Failing, Taken};
-use bc_failed::entry::Failure;
 use bc_failed::failures::Failures;
 use bc_params::params::Params;
 use bc_pending::pending::Pending;
-use bc_search::drops::drop_touching;
 use bc_step::area::Area;
 use bc_steps::Steps;
 use bc_store::store::Store;
@@ -60,13 +59,12 @@ pub struct Book {
 
 impl Model for Book {
     ghost use Rattle.std.specs.Coded.{codes};
-    ghost use Rattle.bc_data.specs.contracts.program.Stat as stat;
-    ghost use Rattle.bc_data.specs.contracts.program.FlagExpr as flag_expr;
-    ghost use Rattle.bc_events.specs.Book.{BookState};
+    ghost use Rattle.bc_data.specs.TypedCode.{statements_code, guard_code};
+    ghost use Rattle.bc_book_events.specs.Book.{BookState};
 
     ghost Value = { BookState };
 
-    ghost coded = { Prim.hlevel (codes, stat.the_row.coded, flag_expr.the_row.coded) };
+    ghost coded = { Prim.hlevel (codes, statements_code, guard_code) };
 
     ghost use Rattle.bc_book.specs.Kept.{state_of, IsKept};
 
@@ -363,7 +361,7 @@ impl Book {
         requires { v.now.task < length self.now.program.tasks }
         ensures { result ≡ place_of (slice_get self.now.program.tasks v.now.task) }
     {
-        self.program.tasks()[v.task as usize].at
+        self.program.tasks()[v.task as usize].at()
     }
 
     /// Commits changes that have room, where no limit stands against it. On `Err` memory was wanting, and nothing changes.

@@ -2,7 +2,7 @@
 // where the commit doesn't happen.
 
 ghost use Rattle.std.specs.Prelude.{◌≡◌, ℕ, ◌+◌, ◌<◌, ◌≤◌, ◌||◌, not, true, if◌then◌else◌, ◌++◌, ◌∷◌, [], length, map, filter, slice_set, None, IfOk, IfSome, IfNone, IsSome, OnErr, vec_len, vec_capacity};
-ghost use Rattle.bc_data.specs.Program.{Parts};
+ghost use Rattle.bc_data.specs.Typed.{TypedProgram};
 ghost use Rattle.bc_data.specs.declared.run.Invocation.{Invocation as Call};
 ghost use Rattle.bc_mean.specs.declared.plain.Plain.{Plain};
 ghost use Rattle.bc_mean.specs.Changes.{apply_changes};
@@ -14,21 +14,21 @@ ghost use Rattle.bc_mean.specs.Work.{look_of};
 ghost use Rattle.bc_pending.specs.Lists.{held_by};
 ghost use Rattle.bc_store.specs.Resolved.{IsResolved};
 ghost use Rattle.bc_store.specs.Store.{CanPublish, HasSpare};
-ghost use Rattle.bc_sets.specs.Kept.{AreSets};
-ghost use Rattle.bc_moves.specs.Moves.{KindsStay, guard_tests};
-ghost use Rattle.bc_events.specs.Book.{BookState};
-ghost use Rattle.bc_events.specs.Moves.{names_any};
-ghost use Rattle.bc_search.specs.Search.{AreBooks, AreOf, IsBefore, IsFound, IsSearch};
+ghost use Rattle.bc_params_sets.specs.Kept.{AreSets};
+ghost use Rattle.bc_book_reshaped.specs.Reshaped.{KindsStay, guard_tests};
+ghost use Rattle.bc_book_events.specs.Book.{BookState};
+ghost use Rattle.bc_book_events.specs.Reshaped.{names_any};
+ghost use Rattle.bc_book_lists.specs.Search.{AreBooks, AreOf, IsBefore, IsFound, IsSearch};
 ghost use Rattle.bc_book.specs.Commits.{ArePartsOf, IsReady, MayAppend};
 
+use bc_book_lists::drops::drop_fallen;
+use bc_book_lists::find::{Before, Found, enabled_before, find};
+use bc_book_reshaped::reshaped::{ids_of, reshaped_of};
+use bc_book_reshaped::sets::{bring, take_back};
 use bc_data::run::{Changes, Invocation};
 use bc_failed::failures::Failures;
-use bc_moves::moved::{ids_of, moves_of};
-use bc_moves::sets::{bring, take_back};
 use bc_params::params::Params;
 use bc_pending::pending::Pending;
-use bc_search::drops::drop_fallen;
-use bc_search::find::{Before, Found, enabled_before, find};
 use bc_steps::Steps;
 use bc_store::store::Store;
 use std::alloc::{AllocError, Global};
@@ -37,7 +37,7 @@ use std::sync::ledger::Ledger;
 /// What a commit needs once nothing can fail any more: the objects that move, those that change, and what was found.
 #[derive(Drop)]
 pub(crate) struct Ready {
-    pub moved: Vec<u32>,
+    pub reshaped: Vec<u32>,
     pub changed: Vec<u32>,
     pub found: Found,
 }
@@ -61,7 +61,7 @@ fn find_with_room(
     pending: &mut Pending,
     workers: u32,
     failures: &Failures,
-    moved: &[u32],
+    reshaped: &[u32],
     changed: &[u32],
     before: &Before,
     v: Invocation,
@@ -73,15 +73,15 @@ fn find_with_room(
     ensures listed { pending.new.listed ≡ pending.old.listed }
     ensures held { pending.new.held ≡ pending.old.held }
     ensures room { IfOk result (λ o. IfSome o (λ found. length found.appended ≤ pending.new.spare)) }
-    ensures found { IfOk result (λ o. IfSome o (λ found. (b : BookState) (T : Plain) (worker : ℕ) → IsSearch b T worker v moved.now
-        → AreBooks b pending.old.listed pending.old.held failures.now.failures → AreOf b.program T params.now.kept → IsBefore b moved.now before.now.named before.now.enabled
-        → IsFound b T worker v moved.now changed.now found.appended found.falls)) }
-    ensures none { IfOk result (λ o. IfNone o ((b : BookState) (T : Plain) (worker : ℕ) → IsSearch b T worker v moved.now
-        → AreBooks b pending.old.listed pending.old.held failures.now.failures → AreOf b.program T params.now.kept → IsBefore b moved.now before.now.named before.now.enabled
+    ensures found { IfOk result (λ o. IfSome o (λ found. (b : BookState) (T : Plain) (worker : ℕ) → IsSearch b T worker v reshaped.now
+        → AreBooks b pending.old.listed pending.old.held failures.now.failures → AreOf b.program T params.now.kept → IsBefore b reshaped.now before.now.named before.now.enabled
+        → IsFound b T worker v reshaped.now changed.now found.appended found.falls)) }
+    ensures none { IfOk result (λ o. IfNone o ((b : BookState) (T : Plain) (worker : ℕ) → IsSearch b T worker v reshaped.now
+        → AreBooks b pending.old.listed pending.old.held failures.now.failures → AreOf b.program T params.now.kept → IsBefore b reshaped.now before.now.named before.now.enabled
         → is_crowded b.program T ≡ true)) }
 {
     let Some(found) = find(
-        alloc, params, pending, workers, failures, moved, changed, before, v,
+        alloc, params, pending, workers, failures, reshaped, changed, before, v,
     )?
     else {
         return Ok(None);
@@ -115,7 +115,7 @@ pub(crate) fn make_ready<L: Ledger>(
     ensures room { IfOk result (λ o. IfSome o (λ ready. length ready.found.appended ≤ pending.new.spare)) }
     ensures ready { IfOk result (λ o. IfSome o (λ ready. (b : BookState) (worker : ℕ)
         → ArePartsOf b worker v store.old.plain pending.old.listed pending.old.held failures.now.failures params.old.kept
-        → IsReady b changes.now worker v ready.moved.items ready.changed.items ready.found.appended ready.found.falls params.new.kept)) }
+        → IsReady b changes.now worker v ready.reshaped.items ready.changed.items ready.found.appended ready.found.falls params.new.kept)) }
     ensures none { IfOk result (λ o. IfNone o ((b : BookState) (worker : ℕ)
         → ArePartsOf b worker v store.old.plain pending.old.listed pending.old.held failures.now.failures params.old.kept
         → (is_crowded b.program (apply_changes b.store changes.now) ≡ true) × AreOf b.program b.store params.new.kept)) }
@@ -127,49 +127,56 @@ pub(crate) fn make_ready<L: Ledger>(
         → steps.new ≤ steps.old + guard_tests b.program changes.now)) }
 {
     store.reserve_for(changes)?;
-    let moves = moves_of(alloc, store, changes)?;
-    let moved = ids_of(alloc, moves.as_slice())?;
+    let reshapes = reshaped_of(alloc, store, changes)?;
+    let reshaped = ids_of(alloc, reshapes.as_slice())?;
     let changed = written_ids(alloc, changes)?;
-    let before = enabled_before(alloc, params, pending, workers, failures, moved.as_slice())?;
+    let before = enabled_before(
+        alloc,
+        params,
+        pending,
+        workers,
+        failures,
+        reshaped.as_slice(),
+    )?;
     params.reserve_for(changes)?;
-    bring(params, store, changes, moves.as_slice(), steps);
+    bring(params, store, changes, reshapes.as_slice(), steps);
     let found = find_with_room(
         alloc,
         params,
         pending,
         workers,
         failures,
-        moved.as_slice(),
+        reshaped.as_slice(),
         changed.as_slice(),
         &before,
         v,
     );
     match found {
         Ok(Some(found)) => Ok(Some(Ready {
-            moved,
+            reshaped,
             changed,
             found,
         })),
         Ok(None) => {
-            take_back(params, store, changes, moves.as_slice());
+            take_back(params, store, changes, reshapes.as_slice());
             Ok(None)
         }
         Err(error) => {
-            take_back(params, store, changes, moves.as_slice());
+            take_back(params, store, changes, reshapes.as_slice());
             Err(error)
         }
     }
 }
 
 /// Drops those that are not enabled any more, where there may be some.
-fn drop_if(falls: bool, pending: &mut Pending, params: &Params, moved: &[u32])
-    ensures listed { (P : Parts) (S : Plain) → AreOf P S params.now.kept
-        → pending.new.listed ≡ (if falls then filter (λ w. not (names_any moved.now w) || is_enabled P S w) pending.old.listed else pending.old.listed) }
+fn drop_if(falls: bool, pending: &mut Pending, params: &Params, reshaped: &[u32])
+    ensures listed { (P : TypedProgram) (S : Plain) → AreOf P S params.now.kept
+        → pending.new.listed ≡ (if falls then filter (λ w. not (names_any reshaped.now w) || is_enabled P S w) pending.old.listed else pending.old.listed) }
     ensures held { pending.new.held ≡ pending.old.held }
     ensures spare { pending.old.spare ≤ pending.new.spare }
 {
     if falls {
-        drop_fallen(pending, params, moved);
+        drop_fallen(pending, params, reshaped);
     }
 }
 
@@ -179,14 +186,19 @@ pub(crate) fn renew(pending: &mut Pending, params: &Params, worker: u32, ready: 
     requires worker { worker < length pending.old.held }
     requires holds { IsSome (held_by pending.old.held worker) }
     requires append { MayAppend pending.old.listed pending.old.held worker ready.now.found.appended }
-    requires sets { (P : Parts) × (S : Plain) × AreOf P S params.now.kept }
+    requires sets { (P : TypedProgram) × (S : Plain) × AreOf P S params.now.kept }
     requires room { length ready.now.found.appended ≤ pending.old.spare }
-    ensures listed { (P : Parts) (S : Plain) → AreOf P S params.now.kept
-        → pending.new.listed ≡ (if ready.now.found.falls then filter (λ w. not (names_any ready.now.moved.items w) || is_enabled P S w) pending.old.listed else pending.old.listed) ++ ready.now.found.appended }
+    ensures listed { (P : TypedProgram) (S : Plain) → AreOf P S params.now.kept
+        → pending.new.listed ≡ (if ready.now.found.falls then filter (λ w. not (names_any ready.now.reshaped.items w) || is_enabled P S w) pending.old.listed else pending.old.listed) ++ ready.now.found.appended }
     ensures held { pending.new.held ≡ slice_set pending.old.held worker None }
 {
     pending.forget(worker);
-    drop_if(ready.found.falls, pending, params, ready.moved.as_slice());
+    drop_if(
+        ready.found.falls,
+        pending,
+        params,
+        ready.reshaped.as_slice(),
+    );
     pending.append_sorted(&ready.found.appended);
 }
 

@@ -2,8 +2,8 @@
 
 ghost use Rattle.std.specs.Prelude.{◌≡◌, Some, slice_get};
 ghost use Rattle.bc_mean.specs.Changes.{same_body};
-ghost use Rattle.bc_events.specs.Events.{is_moved};
-ghost use Rattle.bc_runs.specs.Areas.{moved_in};
+ghost use Rattle.bc_book_events.specs.Events.{is_moved};
+ghost use Rattle.bc_law_core.specs.Areas.{moved_in};
 
 use bc_data::run::Body;
 use bc_step::area::Area;

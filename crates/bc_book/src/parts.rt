@@ -8,10 +8,10 @@ ghost use Rattle.bc_mean.specs.Serial.{has_failure};
 ghost use Rattle.bc_mean.specs.Enabled.{are_different};
 ghost use Rattle.bc_pending.specs.Lists.{held_by};
 
+use bc_book_events::laws::enabled_names;
 use bc_data::list::List;
 use bc_data::program::Program;
 use bc_data::run::{Body, Fault, Invocation};
-use bc_events::laws::enabled_names;
 use bc_failed::failures::Failures;
 use bc_mean::laws::all_ascending;
 use bc_mean::{all_enabled, start};

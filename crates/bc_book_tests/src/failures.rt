@@ -4,8 +4,7 @@ ghost use Rattle.std.specs.Prelude.{◌≡◌, ◌<◌};
 
 use crate::made::one;
 use bc_data::list::List;
-use bc_data::run::{Fault, FaultKind, Invocation, Place};
-use bc_failed::entry::Failure;
+use bc_data::run::{Failure, Fault, FaultKind, Invocation, Place};
 use bc_failed::failures::Failures;
 use bc_steps::Steps;
 use std::alloc::{AllocError, Global};

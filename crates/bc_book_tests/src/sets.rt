@@ -1,7 +1,7 @@
 // Sets and indexes of a few elements, as slices.
 
-use bc_sets::id_set::IdSet;
-use bc_sets::tag_index::{Binding, TagIndex};
+use bc_params_sets::id_set::IdSet;
+use bc_params_sets::tag_index::{Binding, TagIndex};
 use std::alloc::{AllocError, Global};
 
 fn binding(object: u32, tag_type: u32, instance: u32) -> Binding {

@@ -8,10 +8,7 @@
 use Rattle.std.specs.Prelude.{ℕ, Bool, true, false, List, [], ◌∷◌, ◌++◌, ◌==◌, map, codes, slice_get, Option, Some, None, if◌then◌else◌}
 use Rattle.std.specs.List.{flat_map, zip, enumerate_from}
 use Rattle.std.specs.Fmt.{decimal, signed_decimal}
-use Rattle.bc_data.specs.Program.{Parts}
-use Rattle.bc_data.specs.declared.program.Class.{Class}
-use Rattle.bc_data.specs.declared.program.Method.{Method}
-use Rattle.bc_data.specs.declared.program.Task.{Task}
+use Rattle.bc_data.specs.Typed.{TypedClass, TypedMethod, TypedProgram, TypedTask}
 use Rattle.bc_data.specs.declared.run.Kind.{Kind}
 use Rattle.bc_data.specs.declared.run.Kind.TheVariants as kind
 use Rattle.bc_code.specs.declared.code.Instruction.{Instruction}
@@ -39,18 +36,18 @@ abbrev pub text_literal : List ℕ → List ℕ
 text_literal bytes = codes "\"" ++ flat_map escaped_byte bytes ++ codes "\""
 
 -- No program's code has a number that no class has.
-abbrev pub class_name : Option Class → List ℕ
+abbrev pub class_name : Option TypedClass → List ℕ
 class_name None = []
 class_name (Some k) = k.name
 
-abbrev pub kind_text : Parts → Kind → List ℕ
+abbrev pub kind_text : TypedProgram → Kind → List ℕ
 kind_text P (kind.Class c) = class_name (slice_get P.classes c)
 kind_text P kind.Ints = codes "int[]"
 kind_text P kind.Bools = codes "bool[]"
 kind_text P (kind.Objects c) = class_name (slice_get P.classes c) ++ codes "[]"
 
 -- the name of an instruction and its operands, in order
-abbrev pub words_of : Parts → Instruction → List (List ℕ)
+abbrev pub words_of : TypedProgram → Instruction → List (List ℕ)
 words_of P (instruction.Int n) = codes "Int" ∷ signed_decimal n ∷ []
 words_of P (instruction.Bool b) = codes "Bool" ∷ truth_text b ∷ []
 words_of P instruction.Null = codes "Null" ∷ []
@@ -101,29 +98,29 @@ abbrev pub behind_space : List ℕ → List ℕ
 behind_space word = codes " " ++ word
 
 -- the line of an instruction with its number
-abbrev pub instruction_line : Parts → ℕ × Instruction → List ℕ
+abbrev pub instruction_line : TypedProgram → ℕ × Instruction → List ℕ
 instruction_line P numbered = codes "  " ++ decimal numbered.0 ++ flat_map behind_space (words_of P numbered.1) ++ line_feed
 
 -- The names of the units: of each task, and then of each class its constructor, if it has one, and its methods.
-abbrev pub task_name : Task → List ℕ
+abbrev pub task_name : TypedTask → List ℕ
 task_name t = codes "task " ++ t.name
 
-abbrev pub maker_names : List ℕ → Option Method → List (List ℕ)
+abbrev pub maker_names : List ℕ → Option TypedMethod → List (List ℕ)
 maker_names class None = []
 maker_names class (Some m) = (codes "maker " ++ class) ∷ []
 
-abbrev pub method_name : List ℕ → Method → List ℕ
+abbrev pub method_name : List ℕ → TypedMethod → List ℕ
 method_name class m = codes "method " ++ class ++ codes "." ++ m.name
 
-abbrev pub class_names : Class → List (List ℕ)
-class_names k = maker_names k.name k.maker ++ map (method_name k.name) k.methods.items
+abbrev pub class_names : TypedClass → List (List ℕ)
+class_names k = maker_names k.name k.maker ++ map (method_name k.name) k.methods
 
-abbrev pub unit_names : Parts → List (List ℕ)
+abbrev pub unit_names : TypedProgram → List (List ℕ)
 unit_names P = map task_name P.tasks ++ flat_map class_names P.classes
 
 -- the lines of a unit with its name
-abbrev pub unit_text : Parts → List ℕ × CodeUnit → List ℕ
+abbrev pub unit_text : TypedProgram → List ℕ × CodeUnit → List ℕ
 unit_text P named = named.0 ++ codes ":" ++ line_feed ++ flat_map (instruction_line P) (enumerate_from 0 named.1.code)
 
-abbrev pub listing_text : Parts → Code → List ℕ
+abbrev pub listing_text : TypedProgram → Code → List ℕ
 listing_text P code = flat_map (unit_text P) (zip (unit_names P) code.units)

@@ -48,7 +48,7 @@ fn class_name(program: &Program, class: u32) -> &[u8]
     ensures { result.now ≡ class_name (slice_get program.now.classes class) }
 {
     match program.classes().get(class as usize) {
-        Some(class) => class.name.as_slice(),
+        Some(class) => class.name(),
         None => b"",
     }
 }
@@ -269,22 +269,17 @@ fn push_tasks(names: &mut List<Bytes>, alloc: Global, tasks: &[Task]) -> Result<
     ensures { OnOk result (names.new ≡ names.old ++ map task_name tasks.now) }
 {
     for task in tasks {
-        names.push(named(alloc, b"task ", task.name.as_slice())?)?;
+        names.push(named(alloc, b"task ", task.name())?)?;
     }
     Ok(())
 }
 
 // Appends the name of a constructor's unit, if there is one.
-fn push_maker(
-    names: &mut List<Bytes>,
-    alloc: Global,
-    class: &[u8],
-    maker: &Option<Method>,
-) -> Result<(), AllocError>
-    ensures { OnOk result (names.new ≡ names.old ++ maker_names class.now maker.now) }
+fn push_maker(names: &mut List<Bytes>, alloc: Global, class: &Class) -> Result<(), AllocError>
+    ensures { OnOk result (names.new ≡ names.old ++ maker_names class.now.name class.now.maker) }
 {
-    if maker.is_some() {
-        names.push(named(alloc, b"maker ", class)?)?;
+    if class.maker().is_some() {
+        names.push(named(alloc, b"maker ", class.name())?)?;
     }
     Ok(())
 }
@@ -295,7 +290,7 @@ fn method_name(alloc: Global, class: &[u8], method: &Method) -> Result<Bytes, Al
 {
     let mut name = named(alloc, b"method ", class)?;
     name.extend_from_slice(b".")?;
-    name.extend_from_slice(method.name.as_slice())?;
+    name.extend_from_slice(method.name())?;
     Ok(name)
 }
 
@@ -318,13 +313,8 @@ fn push_methods(
 fn push_class(names: &mut List<Bytes>, alloc: Global, class: &Class) -> Result<(), AllocError>
     ensures { OnOk result (names.new ≡ names.old ++ class_names class.now) }
 {
-    push_maker(names, alloc, class.name.as_slice(), &class.maker)?;
-    push_methods(
-        names,
-        alloc,
-        class.name.as_slice(),
-        class.methods.as_slice(),
-    )
+    push_maker(names, alloc, class)?;
+    push_methods(names, alloc, class.name(), class.methods())
 }
 
 fn push_classes(names: &mut List<Bytes>, alloc: Global, classes: &[Class]) -> Result<(), AllocError>

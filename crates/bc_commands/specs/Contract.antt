@@ -1,7 +1,5 @@
 -- What the top call answers, and why.
 use Rattle.std.specs.Prelude.{◌≡◌, ◌⊎◌, ℕ, ◌+◌, ◌<◌, ◌≤◌, List, length, Option, Some, IfSome, IsSomeAnd}
-use Rattle.bc_data.specs.Program.{Parts}
-use Rattle.bc_data.specs.ProgramView.{view_program}
 use Rattle.bc_data.specs.SourceTree.{Sequence, Item}
 use Rattle.bc_data.specs.Typed.{TypedProgram}
 use Rattle.bc_data.specs.declared.run.Place.{Place}
@@ -13,11 +11,11 @@ use Rattle.bc_code.specs.declared.code.Code.{Code}
 use Rattle.bc_code.specs.Listing.{listing_text}
 use Rattle.bc_code.specs.Translation.{Translates}
 use Rattle.bc_print.specs.Canonical.{program_text}
-use Rattle.bc_failed.specs.declared.entry.Failure.{Failure}
+use Rattle.bc_data.specs.declared.run.Failure.{Failure}
 use Rattle.bc_serial.specs.Run.{IsRunOf}
 use Rattle.bc_words.specs.declared.commands.Command.{Command}
 use Rattle.bc_words.specs.declared.commands.Command.TheVariants as command
-use Rattle.bc_words.specs.Commands.{IsCommand, IsNoCommand, file_limit}
+use Rattle.bc_words.specs.Commands.{IsCommand, IsNoCommand, file_name, file_limit}
 use Rattle.bc_texts.specs.declared.refused.RefusedKind.{RefusedKind}
 use Rattle.bc_texts.specs.Texts.{write_text, ok_text}
 use Rattle.bc_read.specs.Reading.{IsProgramText, IsRefused}
@@ -65,7 +63,7 @@ IsLongInput s = IfSome s.old (λ left. input_limit < length left)
 
 -- The answer tells the run of the program on this input. Where there was no memory for what is told of its end, it tells that
 -- alone; an end by want of memory needs none.
-pub record Tells (program : Parts) (input : List ℕ) (commits : ℕ) (a : Reply) : Type 0 where
+pub record Tells (program : TypedProgram) (input : List ℕ) (commits : ℕ) (a : Reply) : Type 0 where
   pub stop : Stop
   pub output : List ℕ
   pub failures : List Failure
@@ -77,8 +75,8 @@ pub record Tells (program : Parts) (input : List ℕ) (commits : ℕ) (a : Reply
 -- The text is a program, and the answer tells its run.
 pub record Serves (text input : List ℕ) (commits : ℕ) (a : Reply) : Type 0 where
   pub items : Sequence Item
-  pub program : Parts
-  pub is : IsProgramText text items (view_program program)
+  pub program : TypedProgram
+  pub is : IsProgramText text items program
   pub tells : Tells program input commits a
 
 -- The text is a program, and the answer is the canonical text of its tree.
@@ -92,7 +90,7 @@ Checks text a = (items : Sequence Item) × (program : TypedProgram) × IsProgram
 -- The text is a program, and the answer is the listing of its code.
 abbrev pub Lists : List ℕ → Reply → Type 0
 Lists text a =
-    (items : Sequence Item) × (program : Parts) × (code : Code) × IsProgramText text items (view_program program) × Translates (view_program program) code
+    (items : Sequence Item) × (program : TypedProgram) × (code : Code) × IsProgramText text items program × Translates program code
     × (a ≡ reply_of_text (listing_text program code))
 
 -- The text is no program, and the answer tells its one fault.
@@ -101,10 +99,10 @@ Refuses text a = (kind : RefusedKind) × (at : Place) × IsRefused text kind at 
 
 -- What a command makes of a program's text. `serial` alone reads the input.
 abbrev pub IsMadeOf : Command → List ℕ → Side → Reply → Type 0
-IsMadeOf (command.Serial commits) text source a = (input : List ℕ) × IsInput source input × Serves text input commits a
-IsMadeOf command.Show text source a = IsUntouched source × Shows text a
-IsMadeOf command.Check text source a = IsUntouched source × Checks text a
-IsMadeOf command.Code text source a = IsUntouched source × Lists text a
+IsMadeOf (command.Serial file commits) text source a = (input : List ℕ) × IsInput source input × Serves text input commits a
+IsMadeOf (command.Show file) text source a = IsUntouched source × Shows text a
+IsMadeOf (command.Check file) text source a = IsUntouched source × Checks text a
+IsMadeOf (command.Code file) text source a = IsUntouched source × Lists text a
 
 -- What a command makes of the text of its file. No input is read for a text that is no program.
 abbrev pub IsMadeOrRefused : Command → List ℕ → Side → Reply → Type 0
@@ -121,23 +119,22 @@ IsLongFile told file = IfSome told (λ t. IsSomeAnd (file_of t.files file) (λ t
 -- The words are a command's, its file was read, and the answer is what the command makes of its text.
 pub record IsMade (words : List (List ℕ)) (i : Inputs) (a : Reply) : Type 0 where
   pub command : Command
-  pub file : List ℕ
-  pub is : IsCommand words command file
+  pub is : IsCommand words command
   pub text : List ℕ
-  pub content : IsFile i.told file text
+  pub content : IsFile i.told (file_name command) text
   pub within : length text ≤ file_limit
   pub made : IsMadeOrRefused command text i.source a
 
 -- the command runs its text on the input, since it is a program
 abbrev pub IsRunOn : Command → List ℕ → Type 0
-IsRunOn (command.Serial commits) text = (items : Sequence Item) × (program : TypedProgram) × IsProgramText text items program
-IsRunOn command.Show text = ⊥
-IsRunOn command.Check text = ⊥
-IsRunOn command.Code text = ⊥
+IsRunOn (command.Serial file commits) text = (items : Sequence Item) × (program : TypedProgram) × IsProgramText text items program
+IsRunOn (command.Show file) text = ⊥
+IsRunOn (command.Check file) text = ⊥
+IsRunOn (command.Code file) text = ⊥
 
 -- the words are a command's that runs its file on the input
 abbrev pub TakesInput : List (List ℕ) → Option Told → Type 0
-TakesInput words told = (c : Command) × (file : List ℕ) × (text : List ℕ) × IsCommand words c file × IsFile told file text × IsRunOn c text
+TakesInput words told = (c : Command) × (text : List ℕ) × IsCommand words c × IsFile told (file_name c) text × IsRunOn c text
 
 -- The cause of each refusal at the input. Want of memory has none.
 abbrev pub IsInputCause : Side → Refusal → Type 0
@@ -150,16 +147,16 @@ IsInputCause source refusal.Memory = Unit {0}
 abbrev pub IsCause : List (List ℕ) → Inputs → Refusal → Type 0
 IsCause words i refusal.NoCommand = IsNoCommand words
 IsCause words i refusal.ReadFailed =
-    ((c : Command) × (file : List ℕ) × IsCommand words c file × Rose i.old_faults i.new_faults)
+    ((c : Command) × IsCommand words c × Rose i.old_faults i.new_faults)
     ⊎ (TakesInput words i.told × Rose i.source.old_faults i.source.new_faults)
 IsCause words i refusal.TooLong =
-    ((c : Command) × (file : List ℕ) × IsCommand words c file × IsLongFile i.told file)
+    ((c : Command) × IsCommand words c × IsLongFile i.told (file_name c))
     ⊎ (TakesInput words i.told × IsLongInput i.source)
 IsCause words i refusal.Memory = Unit {0}
 
 -- The shelf was asked for the command's file, once, or for nothing.
 abbrev pub AsksFile : List (List ℕ) → Option Told → Option Told → Type 0
-AsksFile words old new = new ≡ old ⊎ ((c : Command) × (file : List ℕ) × IsCommand words c file × (new ≡ with_asked old file))
+AsksFile words old new = new ≡ old ⊎ ((c : Command) × IsCommand words c × (new ≡ with_asked old (file_name c)))
 
 -- The input was read, at most one byte past its limit.
 pub record IsTaken (s : Side) : Type 0 where

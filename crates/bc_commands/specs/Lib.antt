@@ -1,3 +1,4 @@
 pub mod Reply
 pub mod Contract
 pub mod Runs
+pub mod Statuses

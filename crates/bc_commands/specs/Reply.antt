@@ -1,11 +1,11 @@
 -- What a call comes to before anything is written, as texts.
 use Rattle.std.specs.Prelude.{ℕ, List, [], length, Option, Some, None}
-use Rattle.bc_data.specs.Program.{Parts}
+use Rattle.bc_data.specs.Typed.{TypedProgram}
 use Rattle.bc_data.specs.declared.run.Invocation.{Invocation}
 use Rattle.bc_data.specs.declared.run.Place.{Place}
 use Rattle.bc_data.specs.declared.run.Stop.{Stop}
 use Rattle.bc_data.specs.declared.run.Stop.TheVariants as stop
-use Rattle.bc_failed.specs.declared.entry.Failure.{Failure}
+use Rattle.bc_data.specs.declared.run.Failure.{Failure}
 use Rattle.bc_texts.specs.declared.refused.RefusedKind.{RefusedKind}
 use Rattle.bc_texts.specs.Texts.{stop_text, words_text, read_text, long_text, refused_text, memory_text}
 use Rattle.bc_commands.specs.declared.answer.Answer.{Answer}
@@ -67,7 +67,7 @@ abbrev pub reply_of : Answer → Reply
 reply_of a = record { status = a.status; history = history_of a.output; stop = stop_of a.output; out = printed_by a.output; err = text_of a.message }
 
 -- A run is told: its status, its output and what is told of its end.
-abbrev pub reply_of_run : Parts → List Invocation → Stop → List ℕ → List Failure → Reply
+abbrev pub reply_of_run : TypedProgram → List Invocation → Stop → List ℕ → List Failure → Reply
 reply_of_run program history stop output failures = record { status = status_of stop; history = history; stop = Some stop; out = output; err = stop_text program stop (length history) failures }
 
 -- There was no memory for what is told of a run's end.

@@ -4,4 +4,5 @@
 pub mod answer;
 mod make;
 mod serve;
+pub mod status_laws;
 pub mod top;

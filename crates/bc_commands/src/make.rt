@@ -1,7 +1,6 @@
 // What each command makes of the text of its file.
 
 ghost use Rattle.std.specs.Prelude.{◌≡◌, ◌≤◌, length, IfOk, IfErr};
-ghost use Rattle.bc_data.specs.ProgramView.{view_program};
 ghost use Rattle.bc_texts.specs.Texts.{ok_text};
 ghost use Rattle.bc_words.specs.Commands.{IsInRange, file_limit};
 ghost use Rattle.bc_commands.specs.Contract.{IsMadeOrRefused, side};
@@ -62,15 +61,17 @@ fn list(alloc: Global, program: &Program) -> Result<Bytes, AllocError>
 /// For `serial` those of the input: `TooLong` or `ReadFailed`. For each command `Memory`.
 pub fn make<S: Source>(
     alloc: Global,
-    command: Command,
+    command: Command<'_>,
     text: &[u8],
     source: &mut S,
 ) -> Result<Answer, Refusal>
     requires within { length text.now ≤ file_limit }
     requires range { IsInRange command }
-    ensures made { IfOk result (λ a. IsMadeOrRefused command text.now (side S.left S.faults source.old source.new) (reply_of a)) }
-    ensures refused { IfErr result (λ r. IsMakeCause command text.now (side S.left S.faults source.old source.new) r) }
-    ensures taken { TakesToRun command text.now (side S.left S.faults source.old source.new) }
+    ensures made { IfOk result (λ a.
+        IsMadeOrRefused command.entry text.now (side S.left S.faults source.old source.new) (reply_of a)) }
+    ensures refused { IfErr result (λ r.
+        IsMakeCause command.entry text.now (side S.left S.faults source.old source.new) r) }
+    ensures taken { TakesToRun command.entry text.now (side S.left S.faults source.old source.new) }
 {
     let read = match read_program(alloc, text) {
         Ok(read) => read,
@@ -78,9 +79,9 @@ pub fn make<S: Source>(
         Err(TextFault::Memory) => return Err(Refusal::Memory),
     };
     match command {
-        Command::Serial(commits) => serve(alloc, read.program, source, commits),
-        Command::Show => Ok(Answer::of_text(alloc, print_tree(alloc, &read.tree)?)),
-        Command::Check => Ok(Answer::of_text(alloc, counts(alloc, &read.program)?)),
-        Command::Code => Ok(Answer::of_text(alloc, list(alloc, &read.program)?)),
+        Command::Serial { commits, .. } => serve(alloc, read.program, source, commits),
+        Command::Show { .. } => Ok(Answer::of_text(alloc, print_tree(alloc, &read.tree)?)),
+        Command::Check { .. } => Ok(Answer::of_text(alloc, counts(alloc, &read.program)?)),
+        Command::Code { .. } => Ok(Answer::of_text(alloc, list(alloc, &read.program)?)),
     }
 }

@@ -1,7 +1,7 @@
 // The run of a program on its input, and what is told of it.
 
 ghost use Rattle.std.specs.Prelude.{◌≡◌, ◌≤◌, ℕ, List, length, IfOk, IfErr, OnErr};
-ghost use Rattle.bc_data.specs.Program.{Parts};
+ghost use Rattle.bc_data.specs.Typed.{TypedProgram};
 ghost use Rattle.bc_failed.specs.Ordered.{ordered};
 ghost use Rattle.bc_texts.specs.Texts.{stop_text};
 ghost use Rattle.bc_commands.specs.Contract.{IsInput, IsInputCause, IsTaken, Tells, input_limit, side};
@@ -94,7 +94,7 @@ fn message_of(alloc: Global, book: &Book, stop: &Stop) -> Result<Message, AllocE
 
 // What is told of a run that is over. Where there is no memory for the message, the output isn't told.
 fn told(alloc: Global, book: Book) -> Answer
-    ensures { (program : Parts) (input : List ℕ) (commits : ℕ) → HasRun program input commits book → Tells program input commits (reply_of result) }
+    ensures { (program : TypedProgram) (input : List ℕ) (commits : ℕ) → HasRun program input commits book → Tells program input commits (reply_of result) }
 {
     let stop = book.stop().unwrap_or(Stop::Memory);
     match message_of(alloc, &book, &stop) {

@@ -61,7 +61,7 @@ fn answer<F: Shelf, S: Source>(
     let Some(command) = command_of(words) else {
         return Err(Refusal::NoCommand);
     };
-    let text = read_file(alloc, words[1].as_slice(), shelf)?;
+    let text = read_file(alloc, command.file(), shelf)?;
     make(alloc, command, text.as_slice(), source)
 }
 

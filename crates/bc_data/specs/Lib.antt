@@ -1,8 +1,9 @@
 pub mod Ids
-pub mod Program
+pub mod Limits
 pub mod Guard
 pub mod Spelling
 pub mod Lexical
+pub mod Names
 pub mod Seen
 pub mod SourceTree
 pub mod Grammar
@@ -10,7 +11,11 @@ pub mod Refusal
 pub mod View
 pub mod Shapes
 pub mod Typed
+pub mod TypedNodes
+pub mod TypedCodes
+pub mod TypedCode
 pub mod ProgramView
 pub mod Startup
 pub mod TypedBodies
+pub mod TypedExits
 pub mod WellTyped

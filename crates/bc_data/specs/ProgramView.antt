@@ -1,5 +1,5 @@
 -- The programs of the code, without where they lie in memory.
-use Rattle.std.specs.Prelude.{List, [], ◌∷◌, map, Option, Some, None}
+use Rattle.std.specs.Prelude.{List, [], ◌∷◌, map, Some, None}
 use Rattle.bc_data.specs.declared.program.Expr.{Expr, Row_of-Expr, end_of-Expr, more_of-Expr}
 use Rattle.bc_data.specs.declared.program.Expr as expr
 use Rattle.bc_data.specs.declared.program.Part.{Part}
@@ -8,13 +8,8 @@ use Rattle.bc_data.specs.declared.program.Stat.{Stat, Row_of-Stat, end_of-Stat, 
 use Rattle.bc_data.specs.declared.program.Stat as stat
 use Rattle.bc_data.specs.declared.program.FlagExpr.{FlagExpr}
 use Rattle.bc_data.specs.declared.program.FlagExpr as flag
-use Rattle.bc_data.specs.declared.program.Method.{Method}
-use Rattle.bc_data.specs.declared.program.Class.{Class}
-use Rattle.bc_data.specs.declared.program.Param.{Param}
-use Rattle.bc_data.specs.declared.program.Task.{Task}
-use Rattle.bc_data.specs.Program.{Parts}
 use Rattle.bc_data.specs.Typed as typed
-use Rattle.bc_data.specs.Typed.{TypedExpression, TypedExpressions, NoArg, Arg, TypedPart, TypedStatement, TypedStatements, Nothing, Then, TypedGuard, TypedMethod, TypedClass, TypedParam, TypedTask, TypedProgram}
+use Rattle.bc_data.specs.Typed.{TypedExpression, TypedExpressions, NoArg, Arg, TypedPart, TypedStatement, TypedStatements, Nothing, Then, TypedGuard}
 
 abbrev mutual
   pub view_expr : Expr → TypedExpression
@@ -77,46 +72,3 @@ view_flag_expr (flag.Truth b) = typed.FlagTruth b
 view_flag_expr (flag.Not' p g) = typed.FlagNot (view_flag_expr g)
 view_flag_expr (flag.And' p g q h) = typed.FlagAnd (view_flag_expr g) (view_flag_expr h)
 view_flag_expr (flag.Or' p g q h) = typed.FlagOr (view_flag_expr g) (view_flag_expr h)
-
-abbrev pub view_program_method : Method → TypedMethod
-view_program_method m = record {
-  name = m.name;
-  formals = m.formals.items;
-  locals = m.locals;
-  result = m.result;
-  body = program_stat_views m.body.items Nothing;
-}
-
-abbrev pub view_maker : Option Method → Option TypedMethod
-view_maker None = None
-view_maker (Some m) = Some (view_program_method m)
-
-abbrev pub view_class : Class → TypedClass
-view_class c = record {
-  name = c.name;
-  flags = c.flags.items;
-  fields = c.fields.items;
-  maker = view_maker c.maker;
-  methods = map view_program_method c.methods.items;
-}
-
-abbrev pub view_program_param : Param → TypedParam
-view_program_param p = record { class = p.class; guard = view_flag_expr p.guard; binds = p.binds.items }
-
-abbrev pub view_task : Task → TypedTask
-view_task t = record {
-  name = t.name;
-  at = t.at;
-  params = map view_program_param t.params.items;
-  variables = t.variables.items;
-  locals = t.locals;
-  tags = t.tags;
-  body = program_stat_views t.body.items Nothing;
-}
-
-abbrev pub view_program : Parts → TypedProgram
-view_program p = record {
-  classes = map view_class p.classes;
-  tag_types = p.tag_types;
-  tasks = map view_task p.tasks;
-}

@@ -1,5 +1,6 @@
--- What holds of the body of a method or a task in a program: every number in it is in range, every expression has the shape that
--- its place asks for, and a slot or a tag variable is read only where it has been set on each way there. Names, scopes and
+-- What holds of the body of a method or a task in a program: each number of a class, a member, a slot, a tag type, a tag
+-- variable or a parameter is one that there is, every expression has the shape that its place asks for, and a slot or a
+-- tag variable is read only where it has been set on each way there. Of whole numbers nothing is asked. Names, scopes and
 -- faults don't occur here.
 use Rattle.std.specs.Prelude.{◌≡◌, ◌⊎◌, ◌<◌, ℕ, Bool, true, false, if◌then◌else◌, ◌&&◌, ◌==◌, length, List, [], ◌∷◌, ◌++◌, Option, Some, None, slice_get, All, Contains}
 use Rattle.bc_data.specs.declared.run.Kind.{Kind}

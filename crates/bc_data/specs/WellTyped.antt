@@ -1,5 +1,5 @@
 -- What every program keeps: the facts that running and compiling it need, so that nothing tests them again.
-use Rattle.std.specs.Prelude.{◌≡◌, ◌<◌, ◌≤◌, ◌+◌, ℕ, true, length, List, [], ◌∷◌, map, Some, None, slice_get, All, Contains}
+use Rattle.std.specs.Prelude.{◌≡◌, ◌≢◌, ◌<◌, ◌≤◌, ◌+◌, ℕ, true, length, List, [], ◌∷◌, map, Some, None, slice_get, All, AllPairs, Contains}
 use Rattle.std.specs.List.{range_with_len}
 use Rattle.bc_data.specs.declared.program.Field.{Field}
 use Rattle.bc_data.specs.declared.program.Shape.{Shape}
@@ -7,7 +7,9 @@ use Rattle.bc_data.specs.declared.program.Shape.TheVariants as shape
 use Rattle.bc_data.specs.Typed.{TypedGuard, FlagIs, FlagTruth, FlagNot, FlagAnd, FlagOr, TypedMethod, TypedClass, TypedParam, TypedTask, TypedProgram}
 use Rattle.bc_data.specs.Shapes.{IsDeclared}
 use Rattle.bc_data.specs.Startup.{startup_class}
+use Rattle.bc_data.specs.Names.{AreNames}
 use Rattle.bc_data.specs.TypedBodies.{Assigned, AssignedSlot, Setting, InMethod, InTask, AreTyped, surely_leave}
+use Rattle.bc_data.specs.TypedExits.{HoldsInAll, NamesOnce, SetsBehind}
 
 -- slots of these shapes, numbered from this one on
 abbrev pub slots_from : ℕ → List Shape → List AssignedSlot
@@ -41,6 +43,10 @@ pub record IsClass (P : TypedProgram) (me : ℕ) (k : TypedClass) : Type 0 where
   pub few_flags : length k.flags ≤ 32
   pub few_fields : length k.fields ≤ 256
   pub few_methods : length k.methods ≤ 256
+  pub flag_names : AreNames k.flags
+  pub field_names : AreNames (map (λ (x : Field). x.name) k.fields)
+  pub method_names : AreNames (map (λ (m : TypedMethod). m.name) k.methods)
+  pub maker_name : (m : TypedMethod) → k.maker ≡ Some m → m.name ≡ k.name
   pub fields : All (λ (x : Field). IsDeclared (length P.classes) x.shape) k.fields
   pub maker : (m : TypedMethod) → k.maker ≡ Some m → IsMaker P me m
   pub methods : All (IsMethod P me) k.methods
@@ -58,6 +64,7 @@ pub record IsParam (P : TypedProgram) (t : TypedTask) (p : TypedParam) : Type 0 
   pub declared : slice_get P.classes p.class ≡ Some class
   pub guard : IsGuard (length class.flags) p.guard
   pub binds : All (λ v. v < length t.variables) p.binds
+  pub binds_once : AllPairs (λ v w. v ≢ w) p.binds
 
 -- The parameters of a task are its first slots, and the tag variables that they bind its first tag variables.
 abbrev pub task_start : TypedTask → Assigned
@@ -85,12 +92,19 @@ pub record IsTask (P : TypedProgram) (t : TypedTask) : Type 0 where
   pub few_names : t.locals + t.tags ≤ 256
   pub behind : Assigned
   pub body : AreTyped (task_setting P t) (task_start t) t.body behind
+  -- its body sets no parameter, and each `taskexit` in it names a parameter once
+  pub fixed : HoldsInAll (SetsBehind (length t.params)) t.body
+  pub exits : HoldsInAll NamesOnce t.body
 
--- an accepted program, without the names and the text from which it was read
+-- What is accepted keeps these facts. They don't say all that is asked of a text: nothing is said of the levels of its
+-- trees, nor of the types of the tag variables that bodies set.
 pub record IsWellTyped (P : TypedProgram) : Type 0 where
   pub startup : slice_get P.classes 0 ≡ Some startup_class
   pub few_classes : length P.classes ≤ 256
   pub few_tag_types : length P.tag_types ≤ 64
   pub few_tasks : length P.tasks ≤ 256
+  pub class_names : AreNames (map (λ (k : TypedClass). k.name) P.classes)
+  pub tag_type_names : AreNames P.tag_types
+  pub task_names : AreNames (map (λ (t : TypedTask). t.name) P.tasks)
   pub classes : (me : ℕ) (k : TypedClass) → slice_get P.classes me ≡ Some k → IsClass P me k
   pub tasks : All (IsTask P) P.tasks

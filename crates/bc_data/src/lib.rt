@@ -1,4 +1,4 @@
-//! The data of Bristlecone: values, bodies, invocations, changes, and accepted programs.
+//! The data of Bristlecone: values, bodies, invocations, changes, and programs.
 #![tactic(auto)]
 
 pub mod ids;

@@ -102,6 +102,13 @@ pub struct Fault {
     pub at: Place,
 }
 
+/// An invocation that faulted, and its fault.
+#[derive(Clone, Copy, Debug, PartialEq, Eq)]
+pub struct Failure {
+    pub v: Invocation,
+    pub fault: Fault,
+}
+
 /// How an invocation ends.
 #[derive(Clone, Debug, Drop)]
 pub enum Ran {

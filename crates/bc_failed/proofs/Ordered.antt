@@ -12,7 +12,7 @@ use Rattle.bc_mean.specs.Orders.{precedes}
 use Rattle.bc_mean.specs.Serial.{Failed, has_failure, listed, same_invocation}
 use Rattle.bc_mean.proofs.Lists.{Chain, chain_from_pairs, chain_map, pairs_from_chain}
 use Rattle.bc_mean.proofs.Orders.{invocations_total, precedes_trans, same_itself, strictly_ordered}
-use Rattle.bc_failed.specs.declared.entry.Failure.{Failure}
+use Rattle.bc_data.specs.declared.run.Failure.{Failure}
 use Rattle.bc_failed.specs.Laws.{Once, OrderAscends, OrderExact, FilterOnce, FilterExact}
 use Rattle.bc_failed.specs.Ordered.{failure_of, put, in_order, ordered}
 use Rattle.bc_failed.proofs.Stable.{MayPrecede, one_sorted, sorted_chain}

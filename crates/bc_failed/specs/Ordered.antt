@@ -2,7 +2,7 @@
 use Rattle.std.specs.Prelude.{if◌then◌else◌, List, [], ◌∷◌, map}
 use Rattle.bc_mean.specs.Orders.{precedes}
 use Rattle.bc_mean.specs.Serial.{Failed}
-use Rattle.bc_failed.specs.declared.entry.Failure.{Failure}
+use Rattle.bc_data.specs.declared.run.Failure.{Failure}
 
 abbrev pub failure_of : Failed → Failure
 failure_of f = record { v = f.v; fault = f.fault }

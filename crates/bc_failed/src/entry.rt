@@ -6,17 +6,10 @@ ghost use Rattle.bc_failed.specs.Records.{touches, leaves};
 ghost use Rattle.bc_failed.specs.Ordered.{failure_of};
 
 use bc_data::list::List;
-use bc_data::run::{Fault, Invocation};
+use bc_data::run::{Failure, Fault, Invocation};
 use bc_steps::Steps;
 use std::marker::Model;
 use std::sync::ledger::Ledger;
-
-/// An invocation that faulted, and its fault.
-#[derive(Clone, Copy, Debug, PartialEq, Eq)]
-pub struct Failure {
-    pub v: Invocation,
-    pub fault: Fault,
-}
 
 /// A failure with the objects that it touched.
 #[derive(Drop)]

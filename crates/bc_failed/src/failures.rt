@@ -6,10 +6,10 @@ ghost use Rattle.bc_mean.specs.Serial.{has_failure};
 ghost use Rattle.bc_failed.specs.Records.{touches, leaves};
 ghost use Rattle.bc_failed.specs.Ordered.{ordered};
 
-use crate::entry::{Failure, Record};
+use crate::entry::Record;
 use crate::order::{all_ordered, drop_in, invocations, touching_ordered};
 use bc_data::list::List;
-use bc_data::run::{Fault, Invocation};
+use bc_data::run::{Failure, Fault, Invocation};
 use bc_steps::Steps;
 use bc_tally::tally::Tally;
 use std::alloc::{AllocError, Global};

@@ -7,8 +7,8 @@ ghost use Rattle.bc_failed.specs.Records.{touches, leaves};
 ghost use Rattle.bc_failed.specs.Ordered.{failure_of, in_order, ordered};
 ghost use Rattle.bc_failed.specs.Touched.{touched_in};
 
-use crate::entry::{Failure, Record};
-use bc_data::run::Invocation;
+use crate::entry::Record;
+use bc_data::run::{Failure, Invocation};
 use bc_steps::Steps;
 use bc_tally::tally::Tally;
 use std::alloc::{AllocError, Global};

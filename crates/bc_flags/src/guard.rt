@@ -2,6 +2,7 @@
 
 ghost use Rattle.std.specs.Prelude.{◌≡◌, ℕ, ◌+◌, ◌^◌, ◌<◌, ◌≤◌, Bool, ◌&&◌, ◌||◌, IfOk};
 ghost use Rattle.bc_data.specs.Guard.{is_set, guard_truth};
+ghost use Rattle.bc_data.specs.ProgramView.{view_flag_expr};
 ghost use Rattle.bc_flags.specs.Met.{is_met, test_count, leaf_count, agree, joined};
 
 use bc_data::program::FlagExpr;
@@ -126,7 +127,7 @@ fn run_of(wanted: bool) -> Run
 
 /// The test that a guard has the wanted truth, as a part of a run.
 fn form_of(alloc: Global, guard: &FlagExpr, wanted: bool, run: Run) -> Result<Form, AllocError>
-    ensures truth { IfOk result (λ f. (mask : ℕ) → mask < 2 ^ 32 → is_met f mask ≡ agree wanted (guard_truth guard.now mask)) }
+    ensures truth { IfOk result (λ f. (mask : ℕ) → mask < 2 ^ 32 → is_met f mask ≡ agree wanted (guard_truth (view_flag_expr guard.now) mask)) }
     ensures few { IfOk result (λ f. test_count f ≤ leaf_count guard.now) }
 {
     match guard {
@@ -162,7 +163,7 @@ fn meets(form: &Form, mask: u32) -> bool
 
 /// The guard that holds at the masks at which this one is true. A flag of 32 or more is set in no mask.
 pub fn guard_of(alloc: Global, guard: &FlagExpr) -> Result<Guard, AllocError>
-    ensures truth { IfOk result (λ g. (mask : ℕ) → mask < 2 ^ 32 → is_met g mask ≡ guard_truth guard.now mask) }
+    ensures truth { IfOk result (λ g. (mask : ℕ) → mask < 2 ^ 32 → is_met g mask ≡ guard_truth (view_flag_expr guard.now) mask) }
     ensures few { IfOk result (λ g. test_count g ≤ leaf_count guard.now) }
 {
     Ok(Guard {

@@ -1,8 +1,8 @@
 // The code of an expression: that of its operands, from left to right, and then its own instruction.
 
-ghost use Rattle.std.specs.Prelude.{◌≡◌, map, IfOk, OnOk};
+ghost use Rattle.std.specs.Prelude.{◌≡◌, IfOk, OnOk};
 ghost use Rattle.bc_data.specs.Typed.{NoArg};
-ghost use Rattle.bc_data.specs.ProgramView.{expr_views, view_class, view_expr};
+ghost use Rattle.bc_data.specs.ProgramView.{expr_views, view_expr};
 ghost use Rattle.bc_code.specs.Emitted.{Emitted, IsGrowing};
 ghost use Rattle.bc_code.specs.Translation.{HasExpression, HasExpressions, after, after_all, count};
 
@@ -17,7 +17,7 @@ use std::alloc::AllocError;
 #[cycle(expressions)]
 pub fn expression(out: &mut Unit, e: &Expr, classes: &[Class]) -> Result<(), AllocError>
     requires { IsGrowing out.old }
-    ensures { OnOk result (Emitted (λ T p. HasExpression (map view_class classes.now) T p (view_expr e.now)) (λ p. after (map view_class classes.now) p (view_expr e.now)) out.old out.new) }
+    ensures { OnOk result (Emitted (λ T p. HasExpression classes.now T p (view_expr e.now)) (λ p. after classes.now p (view_expr e.now)) out.old out.new) }
 {
     match e {
         Expr::Int(n) => put(out, Instruction::Int(*n), NOWHERE),
@@ -88,7 +88,7 @@ pub fn expression(out: &mut Unit, e: &Expr, classes: &[Class]) -> Result<(), All
 #[cycle(expressions)]
 fn arguments(out: &mut Unit, es: &[Expr], classes: &[Class]) -> Result<u32, AllocError>
     requires { IsGrowing out.old }
-    ensures emitted { OnOk result (Emitted (λ T p. HasExpressions (map view_class classes.now) T p (expr_views es.now NoArg)) (λ p. after_all (map view_class classes.now) p (expr_views es.now NoArg)) out.old out.new) }
+    ensures emitted { OnOk result (Emitted (λ T p. HasExpressions classes.now T p (expr_views es.now NoArg)) (λ p. after_all classes.now p (expr_views es.now NoArg)) out.old out.new) }
     ensures counted { IfOk result (λ n. n ≡ count (expr_views es.now NoArg)) }
 {
     for e in es {

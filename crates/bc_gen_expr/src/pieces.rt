@@ -1,7 +1,6 @@
 // The instructions of an expression that are not those of its parts.
 
-ghost use Rattle.std.specs.Prelude.{◌≡◌, ◌+◌, map, slice_get, OnOk};
-ghost use Rattle.bc_data.specs.ProgramView.{view_class};
+ghost use Rattle.std.specs.Prelude.{◌≡◌, ◌+◌, slice_get, OnOk};
 ghost use Rattle.bc_code.specs.Emitted.{Emitted, IsGrowing};
 ghost use Rattle.bc_code.specs.Translation.{AreTweaks, IsMakeCall, IsTweakCode, behind_each, behind_make};
 ghost use Rattle.bc_gen_expr.specs.Pieces.{DoesOperator, jump_where};
@@ -80,10 +79,10 @@ pub fn construct(
     classes: &[Class],
 ) -> Result<(), AllocError>
     requires { IsGrowing out.old }
-    ensures { OnOk result (Emitted (λ T p. IsMakeCall T p at class count (slice_get (map view_class classes.now) class)) (λ p. behind_make (slice_get (map view_class classes.now) class) p) out.old out.new) }
+    ensures { OnOk result (Emitted (λ T p. IsMakeCall T p at class count (slice_get classes.now class)) (λ p. behind_make (slice_get classes.now class) p) out.old out.new) }
 {
     match classes.get(class as usize) {
-        Some(k) => match &k.maker {
+        Some(k) => match k.maker() {
             Some(_) => put(out, Instruction::Make(class, count), at),
             None => Ok(()),
         },

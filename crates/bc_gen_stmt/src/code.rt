@@ -1,7 +1,6 @@
 // The code of programs.
 
 ghost use Rattle.std.specs.Prelude.{◌≡◌, map, IfOk, OnOk};
-ghost use Rattle.bc_data.specs.ProgramView.{view_class, view_maker, view_program, view_program_method, view_task};
 ghost use Rattle.bc_mean.specs.Values.{zero_of};
 ghost use Rattle.bc_code.specs.Translation.{IsMethodUnit, IsTaskUnit, Translates};
 ghost use Rattle.bc_gen_stmt.specs.Units.{Appended, HasClass, HasClasses, HasMaker};
@@ -15,7 +14,7 @@ use std::alloc::{AllocError, Global};
 
 /// The code of a program. Fails for want of memory; a unit that would pass 4,294,967,295 instructions counts as that.
 pub fn generate(alloc: Global, program: &Program) -> Result<Code, AllocError>
-    ensures { IfOk result (λ code. Translates (view_program program.now) code) }
+    ensures { IfOk result (λ code. Translates program.now code) }
 {
     let classes = program.classes();
     let mut units = List::new(alloc);
@@ -34,7 +33,7 @@ fn put_tasks(
     tasks: &[Task],
     classes: &[Class],
 ) -> Result<(), AllocError>
-    ensures { OnOk result (Appended (IsTaskUnit (map view_class classes.now)) (map view_task tasks.now) units.old units.new) }
+    ensures { OnOk result (Appended (IsTaskUnit classes.now) tasks.now units.old units.new) }
 {
     for task in tasks {
         units.push(task_unit(alloc, task, classes)?)?;
@@ -48,7 +47,7 @@ fn put_classes(
     units: &mut List<Unit>,
     classes: &[Class],
 ) -> Result<List<ClassCode>, AllocError>
-    ensures { IfOk result (λ codes. HasClasses (map view_class classes.now) (map view_class classes.now) units.old units.new codes) }
+    ensures { IfOk result (λ codes. HasClasses classes.now classes.now units.old units.new codes) }
 {
     let mut codes = List::new(alloc);
     for class in classes {
@@ -64,12 +63,12 @@ fn put_class(
     class: &Class,
     classes: &[Class],
 ) -> Result<ClassCode, AllocError>
-    ensures { IfOk result (λ code. HasClass (map view_class classes.now) (view_class class.now) units.old units.new code) }
+    ensures { IfOk result (λ code. HasClass classes.now class.now units.old units.new code) }
 {
-    let cells = zero_cells(alloc, &class.fields)?;
-    let maker = put_maker(alloc, units, &class.maker, classes)?;
+    let cells = zero_cells(alloc, class.fields())?;
+    let maker = put_maker(alloc, units, class, classes)?;
     let methods = unit_number(units.len())?;
-    put_methods(alloc, units, &class.methods, classes)?;
+    put_methods(alloc, units, class.methods(), classes)?;
     Ok(ClassCode {
         cells,
         maker,
@@ -77,16 +76,16 @@ fn put_class(
     })
 }
 
-// Appends the unit of a constructor, if there is one, and gives its number.
+// Appends the unit of a class's constructor, if it has one, and gives its number.
 fn put_maker(
     alloc: Global,
     units: &mut List<Unit>,
-    maker: &Option<Method>,
+    class: &Class,
     classes: &[Class],
 ) -> Result<Option<u32>, AllocError>
-    ensures { IfOk result (λ number. HasMaker (map view_class classes.now) (view_maker maker.now) units.old units.new number) }
+    ensures { IfOk result (λ number. HasMaker classes.now class.now.maker units.old units.new number) }
 {
-    match maker {
+    match class.maker() {
         None => Ok(None),
         Some(method) => {
             let number = unit_number(units.len())?;
@@ -103,7 +102,7 @@ fn put_methods(
     methods: &[Method],
     classes: &[Class],
 ) -> Result<(), AllocError>
-    ensures { OnOk result (Appended (IsMethodUnit (map view_class classes.now)) (map view_program_method methods.now) units.old units.new) }
+    ensures { OnOk result (Appended (IsMethodUnit classes.now) methods.now units.old units.new) }
 {
     for method in methods {
         units.push(method_unit(alloc, method, classes)?)?;

@@ -1,7 +1,7 @@
 // The instructions of statements.
 
 ghost use Rattle.std.specs.Prelude.{◌+◌, map, OnOk};
-ghost use Rattle.bc_data.specs.ProgramView.{program_stat_views, view_class, view_expr, view_part, view_program_stat};
+ghost use Rattle.bc_data.specs.ProgramView.{program_stat_views, view_expr, view_part, view_program_stat};
 ghost use Rattle.bc_data.specs.Typed.{Nothing};
 ghost use Rattle.bc_code.specs.Translation.{after, after_part, after_parts, behind_each, past, past_all, At, AreChanges, HasExpression, HasPart, HasParts, HasStatement, HasStatements, IsChangeCode};
 ghost use Rattle.bc_code.specs.Emitted.{Emitted, IsGrowing};
@@ -17,7 +17,7 @@ use std::alloc::{AllocError, Global};
 #[cycle(statements)]
 fn statement(alloc: Global, out: &mut Unit, s: &Stat, classes: &[Class]) -> Result<(), AllocError>
     requires { IsGrowing out.old }
-    ensures { OnOk result (Emitted (λ T p. HasStatement (map view_class classes.now) T p (view_program_stat s.now)) (λ p. past (map view_class classes.now) p (view_program_stat s.now)) out.old out.new) }
+    ensures { OnOk result (Emitted (λ T p. HasStatement classes.now T p (view_program_stat s.now)) (λ p. past classes.now p (view_program_stat s.now)) out.old out.new) }
 {
     match s {
         Stat::Set(slot, e) => value_then(out, e, classes, Instruction::Store(*slot), NOWHERE),
@@ -83,7 +83,7 @@ pub fn statements(
     classes: &[Class],
 ) -> Result<(), AllocError>
     requires { IsGrowing out.old }
-    ensures { OnOk result (Emitted (λ T p. HasStatements (map view_class classes.now) T p (program_stat_views body.now Nothing)) (λ p. past_all (map view_class classes.now) p (program_stat_views body.now Nothing)) out.old out.new) }
+    ensures { OnOk result (Emitted (λ T p. HasStatements classes.now T p (program_stat_views body.now Nothing)) (λ p. past_all classes.now p (program_stat_views body.now Nothing)) out.old out.new) }
 {
     for s in body {
         statement(alloc, out, s, classes)?;
@@ -100,7 +100,7 @@ fn value_then(
     at: Place,
 ) -> Result<(), AllocError>
     requires { IsGrowing out.old }
-    ensures { OnOk result (Emitted (λ T p. HasExpression (map view_class classes.now) T p (view_expr e.now) × At T (after (map view_class classes.now) p (view_expr e.now)) instruction at) (λ p. after (map view_class classes.now) p (view_expr e.now) + 1) out.old out.new) }
+    ensures { OnOk result (Emitted (λ T p. HasExpression classes.now T p (view_expr e.now) × At T (after classes.now p (view_expr e.now)) instruction at) (λ p. after classes.now p (view_expr e.now) + 1) out.old out.new) }
 {
     expression(out, e, classes)?;
     put(out, instruction, at)
@@ -115,7 +115,7 @@ fn print(
     classes: &[Class],
 ) -> Result<(), AllocError>
     requires { IsGrowing out.old }
-    ensures { OnOk result (Emitted (λ T p. HasParts (map view_class classes.now) T at p (map view_part parts.now)) (λ p. after_parts (map view_class classes.now) p (map view_part parts.now)) out.old out.new) }
+    ensures { OnOk result (Emitted (λ T p. HasParts classes.now T at p (map view_part parts.now)) (λ p. after_parts classes.now p (map view_part parts.now)) out.old out.new) }
 {
     for part in parts {
         print_part(alloc, out, at, part, classes)?;
@@ -131,7 +131,7 @@ fn print_part(
     classes: &[Class],
 ) -> Result<(), AllocError>
     requires { IsGrowing out.old }
-    ensures { OnOk result (Emitted (λ T p. HasPart (map view_class classes.now) T at p (view_part part.now)) (λ p. after_part (map view_class classes.now) p (view_part part.now)) out.old out.new) }
+    ensures { OnOk result (Emitted (λ T p. HasPart classes.now T at p (view_part part.now)) (λ p. after_part classes.now p (view_part part.now)) out.old out.new) }
 {
     match part {
         Part::Text(text) => {

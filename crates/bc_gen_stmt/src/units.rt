@@ -1,7 +1,6 @@
 // The units of tasks, methods and constructors.
 
-ghost use Rattle.std.specs.Prelude.{map, IfOk, OnOk};
-ghost use Rattle.bc_data.specs.ProgramView.{view_class, view_program_method, view_task};
+ghost use Rattle.std.specs.Prelude.{IfOk, OnOk};
 ghost use Rattle.bc_code.specs.Translation.{behind_end, IsEnd, IsMethodUnit, IsTaskUnit};
 ghost use Rattle.bc_code.specs.Emitted.{Emitted, IsGrowing};
 
@@ -14,31 +13,31 @@ use std::alloc::{AllocError, Global};
 
 /// The unit of a task.
 pub fn task_unit(alloc: Global, task: &Task, classes: &[Class]) -> Result<Unit, AllocError>
-    ensures { IfOk result (λ u. IsTaskUnit (map view_class classes.now) (view_task task.now) u) }
+    ensures { IfOk result (λ u. IsTaskUnit classes.now task.now u) }
 {
     let mut unit = Unit {
         code: List::new(alloc),
         places: List::new(alloc),
-        locals: task.locals,
-        tags: task.tags,
+        locals: task.locals(),
+        tags: task.tags(),
     };
-    statements(alloc, &mut unit, &task.body, classes)?;
+    statements(alloc, &mut unit, task.body(), classes)?;
     put(&mut unit, Instruction::Exit, NOWHERE)?;
     Ok(unit)
 }
 
 /// The unit of a method or a constructor.
 pub fn method_unit(alloc: Global, method: &Method, classes: &[Class]) -> Result<Unit, AllocError>
-    ensures { IfOk result (λ u. IsMethodUnit (map view_class classes.now) (view_program_method method.now) u) }
+    ensures { IfOk result (λ u. IsMethodUnit classes.now method.now u) }
 {
     let mut unit = Unit {
         code: List::new(alloc),
         places: List::new(alloc),
-        locals: method.locals,
+        locals: method.locals(),
         tags: 0,
     };
-    statements(alloc, &mut unit, &method.body, classes)?;
-    put_end(&mut unit, method.result)?;
+    statements(alloc, &mut unit, method.body(), classes)?;
+    put_end(&mut unit, method.result())?;
     Ok(unit)
 }
 

@@ -5,7 +5,8 @@ use Rattle.bc_data.specs.declared.token.TokenKind.{TokenKind}
 use Rattle.bc_data.specs.declared.token.TokenKind.TheVariants.{Keyword, Name, Number, Text, Mark, End}
 use Rattle.bc_data.specs.declared.token.Token.{Token}
 use Rattle.bc_data.specs.Lexical.{is_letter, is_name_byte, IsRunEnd, Start, Digits, Letters, Opening, Other, start_at, IsPieceFrom, IsPiece, Piece, Gap, Lexeme, Broken, Lexing, Tokens, Refused, with_token, token_at, place_at, Lexes, finished, gap, token, broken, AreTokensOf, IsTextFrom, more, closed, unclosed, wrong, BadByte, OpenText}
-use Rattle.bc_lex.specs.Laws.{InOrder, IsSpelled, IsWithin, IsName}
+use Rattle.bc_data.specs.Names.{IsName}
+use Rattle.bc_lex.specs.Laws.{InOrder, IsSpelled, IsWithin}
 use Rattle.bc_lex.proofs.Inside.{piece_inside, quote_first, letter_begins}
 
 earlier : (text : List ℕ) (i j : ℕ) (ts : List Token) → i ≤ j → InOrder text j ts → InOrder text i ts

@@ -6,7 +6,8 @@ use Rattle.bc_data.specs.declared.token.TokenKind.{TokenKind}
 use Rattle.bc_data.specs.declared.token.TokenKind.TheVariants.{Keyword, Name, Number, Text, Mark, End}
 use Rattle.bc_data.specs.declared.token.Word.{Word}
 use Rattle.bc_data.specs.Spelling.{word_text, sign_text, number_of}
-use Rattle.bc_data.specs.Lexical.{is_letter, is_name_byte, AreTokensOf, HasTokenFault, TokenFault, Lexeme, IsPiece, place_at, token_at}
+use Rattle.bc_data.specs.Names.{IsIdentifier}
+use Rattle.bc_data.specs.Lexical.{AreTokensOf, HasTokenFault, TokenFault, Lexeme, IsPiece, place_at, token_at}
 
 -- at most one list of tokens
 abbrev pub OneList : Type 0
@@ -34,15 +35,10 @@ InOrder text from (t ∷ ts) = (from ≤ t.start) × IsPiece text t.start (Lexem
 abbrev pub TokensInOrder : Type 0
 TokensInOrder = (text : List ℕ) (tokens : List Token) → AreTokensOf text tokens → InOrder text 0 tokens
 
--- a letter or `_`, and then letters, digits and `_`
-pub record IsName (bytes : List ℕ) : Type 0 where
-  pub first : is_letter (slice_index bytes 0) ≡ true
-  pub all : (k : ℕ) → k < length bytes → is_name_byte (slice_index bytes k) ≡ true
-
 -- what the bytes of a token are
 abbrev pub IsSpelled : TokenKind → List ℕ → Type 0
 IsSpelled (Keyword word) bytes = bytes ≡ word_text word
-IsSpelled Name bytes = IsName bytes × ((word : Word) → bytes ≡ word_text word → ⊥)
+IsSpelled Name bytes = IsIdentifier bytes
 IsSpelled (Number n) bytes = number_of bytes ≡ Some n
 IsSpelled (Mark mark) bytes = bytes ≡ sign_text mark
 IsSpelled Text bytes = slice_index bytes 0 ≡ 34

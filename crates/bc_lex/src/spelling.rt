@@ -143,7 +143,8 @@ fn sign_text(sign: Sign) -> &'static [u8]
 /// The first of these keywords that the bytes spell.
 fn spelled(bytes: &[u8], words: &[Word]) -> Option<Word>
     ensures some { IfSome result (λ word. bytes.now ≡ word_text word) }
-    ensures none { IfNone result ((k : ℕ) (d : Word) → k < length words.now → bytes.now ≡ word_text (slice_index_or words.now k d) → ⊥) }
+    ensures none { IfNone result ((k : ℕ) (d : Word) → k < length words.now →
+        bytes.now ≡ word_text (slice_index_or words.now k d) → ⊥) }
 {
     for word in words {
         if word_text(*word) == bytes {
@@ -173,7 +174,8 @@ fn stands_at(text: &[u8], i: usize, mark: Sign) -> bool
 fn standing(text: &[u8], i: usize, marks: &[Sign]) -> Option<Sign>
     requires { i < length text.now }
     ensures some { IfSome result (λ mark. Contains marks.now mark × StandsAt text.now i (sign_text mark)) }
-    ensures none { IfNone result ((k : ℕ) (d : Sign) → k < length marks.now → StandsAt text.now i (sign_text (slice_index_or marks.now k d)) → ⊥) }
+    ensures none { IfNone result ((k : ℕ) (d : Sign) → k < length marks.now →
+        StandsAt text.now i (sign_text (slice_index_or marks.now k d)) → ⊥) }
 {
     for mark in marks {
         if stands_at(text, i, *mark) {

@@ -1,17 +1,19 @@
 -- Instructions of a run, one after another.
 use Rattle.std.proofs.Common.{◌≡◌, ℕ, ◌+◌, ◌-◌, ◌≤◌, List, sym, ◌∙◌, ap, subst, arith}
 use Rattle.std.specs.Prelude.{Result, Ok, Err, OnErr}
+use Rattle.bc_data.specs.declared.run.Invocation.{Invocation}
 use Rattle.bc_data.specs.declared.run.Written.{Written}
 use Rattle.bc_mean.specs.Work.{Got}
 use Rattle.bc_code.specs.declared.code.Code.{Code}
 use Rattle.bc_code.specs.Given.{given_look}
-use Rattle.bc_code.specs.Instructions.{Reads, Did, On, Over, more, step}
-use Rattle.bc_simulation.proofs.Leads.{more_sum, over_stays}
+use Rattle.bc_code.specs.Instructions.{Reads, Did, On, Over, more, start, step}
+use Rattle.bc_law_code.proofs.Leads.{more_sum, over_stays}
 use Rattle.bc_step.specs.declared.state.Did.{Did as Answer}
 use Rattle.bc_step.specs.declared.state.Did.TheVariants as answer
 use Rattle.bc_step.specs.declared.state.State.{State}
 use Rattle.bc_step.specs.Area.{AreCopies, AreaParts, given_of, reads_of}
 use Rattle.bc_step.specs.State.{Answers, HasRule, KeepsGiven, StaysPut, state_with}
+use Rattle.bc_step.specs.Stepping.{CanStep, IsGenerated}
 use Rattle.bc_machine.specs.declared.machine.Ended.TheVariants as ended
 use Rattle.bc_machine.specs.declared.machine.Going.TheVariants as going
 use Rattle.bc_machine.specs.Course.{Comes, Halts, IsOver, Reaches}
@@ -27,7 +29,11 @@ on_err_from (Ok x) P h = tt
 on_err_from (Err e) P h = h
 
 pub keeps_more : (a b c : AreaParts) → KeepsGiven a b → KeepsGiven b c → KeepsGiven a c
-keeps_more a b c k l = record { invocation = l.invocation ∙ k.invocation; given = l.given ∙ k.given }
+keeps_more a b c k l = record {
+  invocation = l.invocation ∙ k.invocation;
+  given = l.given ∙ k.given;
+  spare = omega (arith, k.spare, l.spare);
+}
 
 module _ (R : Reads) (code : Code) (from : Did) where
   -- one instruction more
@@ -43,10 +49,17 @@ module _ (R : Reads) (code : Code) (from : Did) where
     touched = r.touched;
     are = p.area.copies r.copies r.are;
     is = r.is ∙ ap On (sym (p.state r.copies r.touched));
+    going_on = p.area.end ∙ r.going_on;
   }
 
   pub goes_on : (n : ℕ) (s : State) (a : AreaParts) (t : State) (b : AreaParts) (r : Reaches R code from n s a) → Answers answer.On s a t b (step R code (state_with s a r.copies r.touched)) → Reaches R code from (n + 1) t b
-  goes_on n s a t b r h = record { copies = h.0.copies; touched = h.0.touched; are = h.0.are; is = after_one n s a r ∙ h.0.is }
+  goes_on n s a t b r h = record {
+    copies = h.0.copies;
+    touched = h.0.touched;
+    are = h.0.are;
+    is = after_one n s a r ∙ h.0.is;
+    going_on = h.1 ∙ r.going_on;
+  }
 
   pub comes : (n : ℕ) (s : State) (a : AreaParts) (t : State) (b : AreaParts) → StaysPut s a t b → Reaches R code from n s a → Comes R code from t b
   comes n s a t b p r = (n, stays_put n s a t b p r)
@@ -90,16 +103,28 @@ module _ (R : Reads) (code : Code) (from : Did) where
 -- One instruction in a run that began over the same bodies.
 module _ (code : Code) (first : AreaParts) (s : State) (a : AreaParts) (kept : KeepsGiven first a) where
   pub may_step :
-      (from : Did) (n : ℕ)
-      → ((k : ℕ) → HasRule (more (reads_of first) code k from))
-      → Reaches (reads_of first) code from n s a
-      → (cs : List Written) × (ts : List ℕ) × AreCopies cs a.held × HasRule (step (reads_of a) code (state_with s a cs ts))
-  may_step from n rules r = (
-    r.copies,
-    r.touched,
-    r.are,
-    subst (λ (R : Reads). HasRule (step R code (state_with s a r.copies r.touched))) (sym (same_reads first a kept)) (has_rule (reads_of first) code from rules n s a r),
-  )
+      (n : ℕ)
+      → IsGenerated code
+      → ((k : ℕ) → HasRule (more (reads_of first) code k (start code first.invocation)))
+      → Reaches (reads_of first) code (start code first.invocation) n s a
+      → CanStep code s a
+  may_step n generated rules r =
+      let same = same_reads first a kept in
+      record {
+        generated = generated;
+        going_on = r.going_on;
+        copies = r.copies;
+        touched = r.touched;
+        are = r.are;
+        steps = n;
+        reached =
+            ap (λ (R : Reads). more R code n (start code a.invocation)) same
+            ∙ ap (λ (v : Invocation). more (reads_of first) code n (start code v)) kept.invocation
+            ∙ r.is;
+        rule =
+            subst (λ (R : Reads). HasRule (step R code (state_with s a r.copies r.touched))) (sym same)
+            (has_rule (reads_of first) code (start code first.invocation) rules n s a r);
+      }
 
   module _ (did : Answer) (t : State) (b : AreaParts) (answers : (cs : List Written) (ts : List ℕ) → AreCopies cs a.held → Answers did s a t b (step (reads_of a) code (state_with s a cs ts))) where
     -- the answer over what the run began with

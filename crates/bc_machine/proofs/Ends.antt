@@ -2,8 +2,7 @@
 use Rattle.std.proofs.Common.{◌≡◌, ℕ, ◌+◌, ◌<◌, List, ◌++◌, refl, sym, ◌∙◌, ap, subst, arith, lit<}
 use Rattle.std.specs.Prelude.{slice_get, Some, Result, Ok, Err, IfOk, OnErr}
 use Rattle.std.specs.declared.alloc.AllocError.{AllocError}
-use Rattle.bc_data.specs.Program.{Parts}
-use Rattle.bc_data.specs.ProgramView.{view_program}
+use Rattle.bc_data.specs.Typed.{TypedProgram}
 use Rattle.bc_data.specs.declared.run.Changes.{Changes}
 use Rattle.bc_data.specs.declared.run.Fault.{Fault}
 use Rattle.bc_data.specs.declared.run.Invocation.{Invocation}
@@ -14,20 +13,21 @@ use Rattle.bc_mean.specs.Changes.{changes_between}
 use Rattle.bc_mean.specs.Execute.{Flow, most_turns}
 use Rattle.bc_mean.specs.Outcome.{body_outcome, body_run, ending}
 use Rattle.bc_mean.specs.Work.{Look, Work, Got, Gives, Stops, Faulted, Missing, Wrong, look_of}
-use Rattle.bc_fitness.proofs.Stuck.{never_stuck}
-use Rattle.bc_local.specs.Growth.{work_of as work_in}
-use Rattle.bc_local.specs.Laws.{Extends}
+use Rattle.bc_law_soundness.proofs.Stuck.{never_stuck}
+use Rattle.bc_law_locality.specs.Growth.{work_of as work_in}
+use Rattle.bc_law_locality.specs.Laws.{Extends}
 use Rattle.bc_code.specs.declared.code.Code.{Code}
 use Rattle.bc_code.specs.Given.{given_look, ids_of}
 use Rattle.bc_code.specs.Instructions.{Reads, Did, On, Over, Stuck, more, start}
 use Rattle.bc_code.specs.Runs.{IsRight, ended, reads_over, run_over}
 use Rattle.bc_code.specs.Translation.{most_instructions}
-use Rattle.bc_simulation.specs.Laws.{Asked, most_steps}
-use Rattle.bc_simulation.proofs.Asked.{IsWhole, asks_over_more, missing_ended, parameters_known, run_over_says, same_over_more}
-use Rattle.bc_simulation.proofs.Whole.{code_is_never_stuck, code_runs}
+use Rattle.bc_law_code.specs.Laws.{Asked, most_steps}
+use Rattle.bc_law_code.proofs.Asked.{IsWhole, asks_over_more, missing_ended, parameters_known, run_over_says, same_over_more}
+use Rattle.bc_law_code.proofs.Whole.{code_is_never_stuck, code_runs}
 use Rattle.bc_step.specs.declared.state.State.{State}
 use Rattle.bc_step.specs.Area.{AgreesWith, AreaParts, given_of, reads_of, work_with}
 use Rattle.bc_step.specs.State.{HasRule, KeepsGiven}
+use Rattle.bc_step.specs.Stepping.{IsGenerated}
 use Rattle.bc_step.specs.declared.area.End.TheVariants as end
 use Rattle.bc_step.proofs.Changed.{changes_alike}
 use Rattle.bc_machine.specs.declared.machine.Ended.TheVariants as ended
@@ -40,12 +40,12 @@ use Rattle.bc_machine.proofs.Courses.{one_end, same_reads}
 use Rattle.bc_machine.proofs.Stores.{extends_store, right_before, run_is_body}
 
 -- an invocation on its way, over the bodies that it was given so far
-pub record IsUnderWay (P : Parts) (S : Plain) (code : Code) (v : Invocation) (gs : List Written) : Type 0 where
+pub record IsUnderWay (P : TypedProgram) (S : Plain) (code : Code) (v : Invocation) (gs : List Written) : Type 0 where
   pub run : IsRunOf P S code v
   pub agrees : AgreesWith S gs
   pub others : List ℕ
   pub first : ids_of gs ≡ v.objects ++ others
-  pub asked : Asked gs (run_over (view_program P) (given_look gs) v)
+  pub asked : Asked gs (run_over P (given_look gs) v)
 
 has_rule_from : (d : Did) → (d ≡ Stuck → ⊥) → ((w : Work) → d ≡ Over (Stops Wrong w) → ⊥) → HasRule d
 has_rule_from (On s) there right = tt
@@ -77,52 +77,47 @@ pub touched_in : (T : Plain) (g : Got Flow) → (ending T g).touched ≡ (work_i
 touched_in T (Gives flow w) = refl
 touched_in T (Stops h w) = refl
 
-module _ (P : Parts) (S : Plain) (code : Code) where
+module _ (P : TypedProgram) (S : Plain) (code : Code) where
   module _ (v : Invocation) (gs : List Written) (u : IsUnderWay P S code v gs) where
     abbrev L : Look
     L = given_look gs
 
     abbrev own : Got Flow
-    own = run_over (view_program P) L v
+    own = run_over P L v
 
     abbrev at_start : Did
     at_start = start code v
 
     is_right : IsRight own
     is_right =
-        right_before L own (run_over (view_program P) (look_of S) v)
+        right_before L own (run_over P (look_of S) v)
         (λ w e. (never_stuck P S v u.run.well_typed u.run.fits u.run.enabled).right w (sym (run_is_body P S v) ∙ e))
-        (run_over_says (view_program P) L (look_of S) v (extends_store S gs u.agrees) (parameters_known gs v.objects u.others u.first))
+        (run_over_says P L (look_of S) v (extends_store S gs u.agrees) (parameters_known gs v.objects u.others u.first))
 
     rules : (n : ℕ) → HasRule (more (reads_over L v) code n at_start)
     rules n =
-        has_rule_from _ (code_is_never_stuck.instruction (view_program P) code L v n u.run.well_typed u.run.translated is_right)
-        (λ w. code_is_never_stuck.operands (view_program P) code L v n w u.run.well_typed u.run.translated is_right)
+        has_rule_from _ (code_is_never_stuck.instruction P code L v n u.run.well_typed u.run.translated is_right)
+        (λ w. code_is_never_stuck.operands P code L v n w u.run.well_typed u.run.translated is_right)
 
     at_end : (n : ℕ) (g : Got (Unit {0})) → more (reads_over L v) code n at_start ≡ Over g → ended own ≡ g
     at_end n g e =
-        let c = code_runs (view_program P) code L v u.run.well_typed u.run.translated is_right in
+        let c = code_runs P code L v u.run.well_typed u.run.translated is_right in
         one_end (reads_over L v) code at_start c.0 n (ended own) g c.1 e
 
-    can_run_on : (n : ℕ) (s : State) (a : AreaParts) → reads_of a ≡ reads_over L v → Reaches (reads_over L v) code at_start n s a → CanRun code s a
-    can_run_on n s a same r =
-        let c = code_runs (view_program P) code L v u.run.well_typed u.run.translated is_right in
+    generated : IsGenerated code
+    generated = record { program = P; well_typed = u.run.well_typed; translated = u.run.translated }
+
+    last : (n : ℕ) × (more (reads_over L v) code n at_start ≡ Over (ended own)) × (n < 18446744073709551615)
+    last =
+        let c = code_runs P code L v u.run.well_typed u.run.translated is_right in
         let few = few_steps in
         let less : c.0 < 18446744073709551615 = omega (arith, c.2, few) in
-        record {
-          from = at_start;
-          steps = n;
-          here = subst (λ (R : Reads). Reaches R code at_start n s a) (sym same) r;
-          rules = subst (λ (R : Reads). (k : ℕ) → HasRule (more R code k at_start)) (sym same) rules;
-          last = c.0;
-          over = record { end = ended own; is = ap (λ (R : Reads). more R code c.0 at_start) same ∙ c.1 };
-          bound = less;
-        }
+        (c.0, c.1, less)
 
   -- an area whose invocation is on its way
   module _ (b : AreaParts) (u : IsUnderWay P S code b.invocation (given_of b.held)) where
     abbrev mine : Got Flow
-    mine = run_over (view_program P) (given_look (given_of b.held)) b.invocation
+    mine = run_over P (given_look (given_of b.held)) b.invocation
 
     abbrev from : Did
     from = start code b.invocation
@@ -133,7 +128,7 @@ module _ (P : Parts) (S : Plain) (code : Code) where
     -- The run in a store that has the bodies given is this one, where it was missing none.
     outcome_alike : (T : Plain) → AgreesWith T (given_of b.held) → (g : Got Flow) → mine ≡ g → IsWhole g → body_outcome P T b.invocation ≡ ending T g
     outcome_alike T agrees g e whole =
-        let s = same_over_more (view_program P) b.invocation (given_of b.held) (look_of T) (extends_store T (given_of b.held) agrees) u.asked (subst IsWhole (sym e) whole) in
+        let s = same_over_more P b.invocation (given_of b.held) (look_of T) (extends_store T (given_of b.held) agrees) u.asked (subst IsWhole (sym e) whole) in
         ap (ending T) (sym (run_is_body P T b.invocation) ∙ s.same ∙ e)
 
     runs_from : (t : State) (n : ℕ) → Reaches (reads_of b) code from n t b → IsRunning P S code (record { state = t; area = b })
@@ -147,6 +142,7 @@ module _ (P : Parts) (S : Plain) (code : Code) where
       touched = r.touched;
       steps = n;
       reached = r.is;
+      going_on = r.going_on;
       asked = u.asked;
     }
 
@@ -157,7 +153,7 @@ module _ (P : Parts) (S : Plain) (code : Code) where
     in_need id n l =
         let need = needs id n l in
         let asks = λ (M : Look) (x : Extends (given_look (given_of b.held)) M).
-        asks_over_more (view_program P) b.invocation (given_of b.held) M id need.0 u.others u.first x u.asked need.1 in
+        asks_over_more P b.invocation (given_of b.held) M id need.0 u.others u.first x u.asked need.1 in
         record {
           needs = need;
           new = (asks (given_look (given_of b.held)) (λ i c e. e)).unknown;
@@ -193,10 +189,22 @@ module _ (P : Parts) (S : Plain) (code : Code) where
     under_way = record { run = r.run; agrees = r.agrees; others = r.others; first = r.first; asked = r.asked }
 
     here : Reaches (reads_of m.area) code (start code m.area.invocation) r.steps m.state m.area
-    here = record { copies = r.copies; touched = r.touched; are = r.are; is = r.reached }
+    here = record { copies = r.copies; touched = r.touched; are = r.are; is = r.reached; going_on = r.going_on }
 
     pub can_run : CanRun code m.state m.area
-    can_run = can_run_on m.area.invocation (given_of m.area.held) under_way r.steps m.state m.area refl here
+    can_run =
+        let v = m.area.invocation in
+        let gs = given_of m.area.held in
+        let l = last v gs under_way in
+        record {
+          generated = generated v gs under_way;
+          steps = r.steps;
+          here = here;
+          rules = rules v gs under_way;
+          last = l.0;
+          over = record { end = ended (own v gs under_way); is = l.1 };
+          bound = l.2;
+        }
 
     -- after some instructions
     module _ (t : State) (b : AreaParts) (kept : KeepsGiven m.area b) where

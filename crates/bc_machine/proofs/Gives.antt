@@ -7,9 +7,7 @@ use Rattle.std.proofs.lemmas.Bool.{and_parts, false≢true}
 use Rattle.std.proofs.lemmas.List.{length-map}
 use Rattle.std.proofs.lemmas.Option.{slice_get-map}
 use Rattle.std.proofs.lemmas.List.Elements.{All-cons, All-nil, All-push}
-use Rattle.bc_data.specs.Program.{Parts}
-use Rattle.bc_data.specs.ProgramView.{view_program, view_task}
-use Rattle.bc_data.specs.declared.program.Task.{Task}
+use Rattle.bc_data.specs.Typed.{TypedProgram, TypedTask}
 use Rattle.bc_data.specs.declared.run.Body.{Body}
 use Rattle.bc_data.specs.declared.run.Invocation.{Invocation}
 use Rattle.bc_data.specs.declared.run.Written.{Written}
@@ -17,33 +15,33 @@ use Rattle.bc_mean.specs.declared.plain.Plain.{Plain}
 use Rattle.bc_mean.specs.Enabled.{IsEnabled, are_different, is_some_and, take_all}
 use Rattle.bc_mean.specs.Work.{newest}
 use Rattle.bc_code.specs.declared.code.Code.{Code}
-use Rattle.bc_code.specs.declared.code.Unit.{Unit as CodeUnit}
 use Rattle.bc_code.specs.Given.{given_look, ids_of}
 use Rattle.bc_code.specs.Instructions.{On, more, start}
 use Rattle.bc_code.specs.Runs.{reads_over, run_over}
-use Rattle.bc_simulation.specs.Laws.{Asked, and_body}
-use Rattle.bc_simulation.proofs.Asked.{asked_in_order, ids_more, look_more}
-use Rattle.bc_simulation.proofs.MoreBodies.{code_over_more}
+use Rattle.bc_law_code.specs.Laws.{Asked, and_body}
+use Rattle.bc_law_code.proofs.Asked.{asked_in_order, ids_more, look_more}
+use Rattle.bc_law_code.proofs.MoreBodies.{code_over_more}
 use Rattle.bc_step.specs.declared.state.State.{State}
 use Rattle.bc_step.specs.Area.{AgreesWith, AreaParts, Held, IsFresh, copies_of, copied, given_of, with_id}
 use Rattle.bc_step.specs.State.{state_with}
+use Rattle.bc_step.specs.Stepping.{CanBegin, StandsAtStart}
 use Rattle.bc_machine.specs.declared.machine.Machine.{Machine}
 use Rattle.bc_machine.specs.Running.{AreBodiesOf, IsRunOf, IsRunning, Needs}
 
 -- the objects of an enabled invocation are different
-pub objects_differ : (P : Parts) (S : Plain) (v : Invocation) → IsEnabled P S v → are_different v.objects ≡ true
+pub objects_differ : (P : TypedProgram) (S : Plain) (v : Invocation) → IsEnabled P S v → are_different v.objects ≡ true
 objects_differ P S v e = at (slice_get P.tasks v.task) e
   where
     at :
-        (o : Option Task)
+        (o : Option TypedTask)
         → is_some_and o (λ t.
-        (length v.tags == length t.variables.items) && take_all S t v.tags t.params.items v.objects && are_different v.objects
+        (length v.tags == length t.variables) && take_all S t v.tags t.params v.objects && are_different v.objects
         && list_all (λ n. nat_lt n (length S.tags)) v.tags) ≡ true
         → are_different v.objects ≡ true
     at None h = absurd (false≢true h)
     at (Some t) h =
-        let long = length v.tags == length t.variables.items in
-        let fits = take_all S t v.tags t.params.items v.objects in
+        let long = length v.tags == length t.variables in
+        let fits = take_all S t v.tags t.params v.objects in
         let front = and_parts (long && fits && are_different v.objects) (list_all (λ n. nat_lt n (length S.tags)) v.tags) h in
         (and_parts (long && fits) (are_different v.objects) front.0).1
 
@@ -51,12 +49,15 @@ there : {A : Type 0} (o : Option A) (test : A → Bool) → is_some_and o test �
 there None test h = absurd (false≢true h)
 there (Some x) test h = (x, refl)
 
--- the code has a unit for the task of an enabled invocation
-pub unit_there : (P : Parts) (S : Plain) (code : Code) (v : Invocation) → IsRunOf P S code v → (unit : CodeUnit) × (slice_get code.units v.task ≡ Some unit)
-unit_there P S code v run =
+-- an enabled invocation is of a task of the program
+pub can_begin : (P : TypedProgram) (S : Plain) (code : Code) (v : Invocation) → IsRunOf P S code v → CanBegin code v
+can_begin P S code v run =
     let task = there (slice_get P.tasks v.task) _ run.enabled in
-    let unit = run.translated.tasks v.task (view_task task.0) (slice_get-map view_task P.tasks v.task ∙ ap (option_map view_task) task.1) in
-    (unit.0, unit.1)
+    record {
+      generated = record { program = P; well_typed = run.well_typed; translated = run.translated };
+      task = task.0;
+      there = task.1;
+    }
 
 -- an object that was given without a copy
 abbrev uncopied : ℕ → Body → Held
@@ -74,7 +75,7 @@ copies_more (h ∷ hs) id b = ap (copied h.id h.copy) (copies_more hs id b)
 abbrev pub with_body : AreaParts → ℕ → Body → ℕ → AreaParts
 with_body a id b spare = record a { held = a.held ++ uncopied id b ∷ []; spare = spare }
 
-module _ (P : Parts) (S : Plain) (code : Code) (m : Machine) where
+module _ (P : TypedProgram) (S : Plain) (code : Code) (m : Machine) where
   -- Room for more changes nothing else.
   pub spare_runs : (b : AreaParts) → b ≡ record m.area { spare = b.spare } → IsRunning P S code m → IsRunning P S code (record { state = m.state; area = b })
   spare_runs b e r =
@@ -89,6 +90,7 @@ module _ (P : Parts) (S : Plain) (code : Code) (m : Machine) where
         touched = r.touched;
         steps = r.steps;
         reached = r.reached;
+        going_on = r.going_on;
         asked = r.asked;
       })
 
@@ -117,9 +119,10 @@ module _ (P : Parts) (S : Plain) (code : Code) (m : Machine) where
           reached =
               subst (λ (l : List Written). more (reads_over (given_look l) v) code r.steps (start code v) ≡ On (state_with m.state m.area r.copies r.touched)) (sym is)
               (code_over_more code (given_look gs) (given_look hs) v r.steps (state_with m.state m.area r.copies r.touched) (look_more gs id body) r.reached);
+          going_on = r.going_on;
           asked =
-              subst (λ (l : List Written). Asked l (run_over (view_program P) (given_look l) v)) (sym is)
-              (asked_in_order.next (view_program P) v gs id body need.0 r.others r.first (objects_differ P S v r.run.enabled) r.asked need.1);
+              subst (λ (l : List Written). Asked l (run_over P (given_look l) v)) (sym is)
+              (asked_in_order.next P v gs id body need.0 r.others r.first (objects_differ P S v r.run.enabled) r.asked need.1);
         }
 
   pub given_runs : (id : ℕ) (body : Body) (b : AreaParts) → b ≡ with_body m.area id body b.spare → IsRunning P S code m → Needs P m.area id → slice_get S.bodies id ≡ Some body → IsRunning P S code (record { state = m.state; area = b })
@@ -154,7 +157,7 @@ pub fresh_given : (v : Invocation) (bodies : List Body) (a : AreaParts) → leng
 fresh_given v bodies a e f = ap (λ (hs : List Held). ids_of (given_of hs)) f.held ∙ fresh_ids v.objects bodies e
 
 -- the machine before the first instruction
-module _ (P : Parts) (S : Plain) (code : Code) (bodies : List Body) (s : State) (a : AreaParts) where
+module _ (P : TypedProgram) (S : Plain) (code : Code) (bodies : List Body) (s : State) (a : AreaParts) where
   fresh_runs :
       (f : IsFresh a.invocation bodies a) → start code a.invocation ≡ On (state_with s a [] a.invocation.objects) → IsRunOf P S code a.invocation → AreBodiesOf S a.invocation.objects bodies
       → IsRunning P S code (record { state = s; area = a })
@@ -170,11 +173,12 @@ module _ (P : Parts) (S : Plain) (code : Code) (bodies : List Body) (s : State) 
         touched = a.invocation.objects;
         steps = 0;
         reached = starts;
-        asked = asked_in_order.first (view_program P) a.invocation (given_of a.held) ids (objects_differ P S a.invocation run.enabled);
+        going_on = f.end;
+        asked = asked_in_order.first P a.invocation (given_of a.held) ids (objects_differ P S a.invocation run.enabled);
       }
 
   pub start_runs :
-      (v : Invocation) → IsFresh v bodies a → ((b : AreaParts) (cs : List Body) → IsFresh v cs b → start code v ≡ On (state_with s b [] v.objects)) → IsRunOf P S code v → AreBodiesOf S v.objects bodies
+      (v : Invocation) → IsFresh v bodies a → StandsAtStart code v s → IsRunOf P S code v → AreBodiesOf S v.objects bodies
       → IsRunning P S code (record { state = s; area = a })
   start_runs v f starts run are =
       let F : Invocation → Type 0 = λ u.

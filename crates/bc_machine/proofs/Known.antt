@@ -7,10 +7,7 @@ use Rattle.std.proofs.lemmas.List.{length-append, length-map, map-append, take_m
 use Rattle.std.proofs.lemmas.List.Elements.{All-from_recursion, recursion_from_All}
 use Rattle.std.proofs.lemmas.Map.Steps.{length-le_from_distinct_below}
 use Rattle.std.proofs.lemmas.Option.{slice_get_cases, slice_get_read}
-use Rattle.bc_data.specs.Program.{Parts}
-use Rattle.bc_data.specs.ProgramView.{view_program}
-use Rattle.bc_data.specs.declared.program.Param.{Param}
-use Rattle.bc_data.specs.declared.program.Task.{Task}
+use Rattle.bc_data.specs.Typed.{TypedParam, TypedProgram, TypedTask}
 use Rattle.bc_data.specs.declared.run.Body.{Body}
 use Rattle.bc_data.specs.declared.run.Invocation.{Invocation}
 use Rattle.bc_data.specs.declared.run.Written.{Written}
@@ -21,16 +18,16 @@ use Rattle.bc_mean.specs.Outcome.{body_outcome, body_run}
 use Rattle.bc_mean.specs.Work.{Got, Gives, Stops, Faulted, Missing, Wrong, look_of}
 use Rattle.bc_mean.proofs.Enabled.{inside}
 use Rattle.bc_mean.proofs.Lists.{each_weaker}
-use Rattle.bc_fitness.specs.Laws.{IsNotStuck}
-use Rattle.bc_fitness.proofs.Stuck.{never_stuck}
-use Rattle.bc_local.specs.Growth.{has, work_of}
-use Rattle.bc_local.specs.Laws.{Says}
-use Rattle.bc_local.proofs.Lists.{has_here, one_of}
-use Rattle.bc_local.proofs.Runs.{touched_from_the_parameters}
+use Rattle.bc_law_soundness.specs.Laws.{IsNotStuck}
+use Rattle.bc_law_soundness.proofs.Stuck.{never_stuck}
+use Rattle.bc_law_locality.specs.Growth.{has, work_of}
+use Rattle.bc_law_locality.specs.Laws.{Says}
+use Rattle.bc_law_locality.proofs.Lists.{has_here, one_of}
+use Rattle.bc_law_locality.proofs.Runs.{touched_from_the_parameters}
 use Rattle.bc_code.specs.declared.code.Code.{Code}
 use Rattle.bc_code.specs.Given.{ids_of}
-use Rattle.bc_simulation.proofs.Asked.{run_over_says}
-use Rattle.bc_simulation.proofs.Lists.{not_given}
+use Rattle.bc_law_code.proofs.Asked.{run_over_says}
+use Rattle.bc_law_code.proofs.Lists.{not_given}
 use Rattle.bc_step.specs.Area.{AgreesWith, AreaParts, Held, given_of}
 use Rattle.bc_step.specs.State.{KeepsGiven}
 use Rattle.bc_machine.specs.declared.machine.Machine.{Machine}
@@ -41,7 +38,7 @@ use Rattle.bc_machine.proofs.Ends.{touched_in}
 use Rattle.bc_machine.proofs.Gives.{objects_differ}
 use Rattle.bc_machine.proofs.Stores.{run_is_body}
 
-taken : (S : Plain) (t : Task) (instances : List ℕ) (ps : List Param) (ids : List ℕ) → take_all S t instances ps ids ≡ true → AllByRecursion (λ id. id < length S.bodies) ids
+taken : (S : Plain) (t : TypedTask) (instances : List ℕ) (ps : List TypedParam) (ids : List ℕ) → take_all S t instances ps ids ≡ true → AllByRecursion (λ id. id < length S.bodies) ids
 taken S t instances [] [] h = tt
 taken S t instances [] (id ∷ ids) h = absurd (false≢true h)
 taken S t instances (p ∷ ps) [] h = absurd (false≢true h)
@@ -50,24 +47,24 @@ taken S t instances (p ∷ ps) (id ∷ ids) h =
     (inside S.bodies id _ q.0, taken S t instances ps ids q.1)
 
 -- the objects of an enabled invocation are there
-there : (P : Parts) (S : Plain) (v : Invocation) → IsEnabled P S v → AllByRecursion (λ id. id < length S.bodies) v.objects
+there : (P : TypedProgram) (S : Plain) (v : Invocation) → IsEnabled P S v → AllByRecursion (λ id. id < length S.bodies) v.objects
 there P S v e = at (slice_get P.tasks v.task) e
   where
     at :
-        (o : Option Task)
+        (o : Option TypedTask)
         → is_some_and o (λ t.
-        (length v.tags == length t.variables.items) && take_all S t v.tags t.params.items v.objects && are_different v.objects
+        (length v.tags == length t.variables) && take_all S t v.tags t.params v.objects && are_different v.objects
         && list_all (λ n. nat_lt n (length S.tags)) v.tags) ≡ true
         → AllByRecursion (λ id. id < length S.bodies) v.objects
     at None h = absurd (false≢true h)
     at (Some t) h =
-        let long = length v.tags == length t.variables.items in
-        let fits = take_all S t v.tags t.params.items v.objects in
+        let long = length v.tags == length t.variables in
+        let fits = take_all S t v.tags t.params v.objects in
         let front = and_parts (long && fits && are_different v.objects) (list_all (λ n. nat_lt n (length S.tags)) v.tags) h in
         let middle = and_parts (long && fits) (are_different v.objects) front.0 in
-        taken S t v.tags t.params.items v.objects (and_parts long fits middle.0).1
+        taken S t v.tags t.params v.objects (and_parts long fits middle.0).1
 
-pub objects_there : (P : Parts) (S : Plain) (v : Invocation) → IsEnabled P S v → All (λ id. id < length S.bodies) v.objects
+pub objects_there : (P : TypedProgram) (S : Plain) (v : Invocation) → IsEnabled P S v → All (λ id. id < length S.bodies) v.objects
 objects_there P S v e = All-from_recursion (λ id. id < length S.bodies) v.objects (there P S v e)
 
 known_there : (S : Plain) (id : ℕ) → id < length S.bodies → IsSome (look_of S id)
@@ -104,14 +101,14 @@ one F (other ∷ others) id a h = at (eqb id other) refl (one F others id a.1) h
     at true e later h = subst F (sym (eqb-true id other e)) a.0
     at false e later h = later h
 
-module _ (P : Parts) (S : Plain) (code : Code) (v : Invocation) (run : IsRunOf P S code v) where
+module _ (P : TypedProgram) (S : Plain) (code : Code) (v : Invocation) (run : IsRunOf P S code v) where
   abbrev own : Got Flow
   own = body_run P S (slice_get P.tasks v.task) v
 
   says : Says (look_of S) own own
   says =
       subst (λ (g : Got Flow). Says (look_of S) g g) (run_is_body P S v)
-      (run_over_says (view_program P) (look_of S) (look_of S) v (λ id b e. e)
+      (run_over_says P (look_of S) (look_of S) v (λ id b e. e)
       (All-from_recursion (λ id. IsSome (look_of S id)) v.objects (each_weaker (λ id. id < length S.bodies) (λ id. IsSome (look_of S id)) (known_there S) v.objects (there P S v run.enabled))))
 
   known : (g : Got Flow) → IsNotStuck g → Says (look_of S) g g → All (λ id. IsSome (look_of S id)) (work_of g).touched
@@ -138,7 +135,7 @@ pub record Lacking (S : Plain) (a : AreaParts) (id : ℕ) : Type 0 where
   pub more : length a.held < length S.bodies
   pub new : has (ids_of (given_of a.held)) id ≡ false
 
-pub need_there : (P : Parts) (S : Plain) (code : Code) (a : AreaParts) (id : ℕ) → IsRunOf P S code a.invocation → AgreesWith S (given_of a.held) → IsInNeed P a id → Lacking S a id
+pub need_there : (P : TypedProgram) (S : Plain) (code : Code) (a : AreaParts) (id : ℕ) → IsRunOf P S code a.invocation → AgreesWith S (given_of a.held) → IsInNeed P a id → Lacking S a id
 need_there P S code a id run agrees need =
     let n = need.next S agrees in
     let gs = given_of a.held in
@@ -157,7 +154,7 @@ held_kept a b k =
     sym (of b.held) ∙ ap length k.given ∙ of a.held
 
 -- a machine that answered a need, after it was on its way
-module _ (P : Parts) (S : Plain) (code : Code) (m : Machine) (id : ℕ) (g : Going) (is : g ≡ going.Need id) (on : runs_on (Ok g) (IsRunning P S code m)) (tells : Tells P m.area g) where
+module _ (P : TypedProgram) (S : Plain) (code : Code) (m : Machine) (id : ℕ) (g : Going) (is : g ≡ going.Need id) (on : runs_on (Ok g) (IsRunning P S code m)) (tells : Tells P m.area g) where
   in_need : IsInNeed P m.area id
   in_need = subst (Tells P m.area) is tells
 

@@ -5,15 +5,13 @@ use Rattle.std.specs.Option.{option_map}
 use Rattle.std.proofs.lemmas.Bool.{eqb-true}
 use Rattle.std.proofs.lemmas.List.Elements.{All-head, All-tail}
 use Rattle.std.proofs.lemmas.Option.{slice_get-map}
-use Rattle.bc_data.specs.Program.{Parts}
-use Rattle.bc_data.specs.ProgramView.{view_program, view_task}
-use Rattle.bc_data.specs.declared.program.Task.{Task}
+use Rattle.bc_data.specs.Typed.{TypedProgram, TypedTask}
 use Rattle.bc_data.specs.declared.run.Invocation.{Invocation}
 use Rattle.bc_data.specs.declared.run.Written.{Written}
 use Rattle.bc_mean.specs.declared.plain.Plain.{Plain}
 use Rattle.bc_mean.specs.Outcome.{body_run}
 use Rattle.bc_mean.specs.Work.{Look, Work, Got, Gives, Stops, Faulted, Missing, Wrong, look_of}
-use Rattle.bc_local.specs.Laws.{Extends, Says}
+use Rattle.bc_law_locality.specs.Laws.{Extends, Says}
 use Rattle.bc_code.specs.Given.{given_look}
 use Rattle.bc_code.specs.Runs.{IsRight, run_over, task_over}
 use Rattle.bc_step.specs.Area.{AgreesWith}
@@ -27,14 +25,13 @@ extends_store S (g ∷ gs) a id b e = at (g.id == id) refl (extends_store S gs (
     at true is later e = subst (λ (n : ℕ). slice_get S.bodies n ≡ Some b) (eqb-true g.id id is) (All-head (λ (h : Written). slice_get S.bodies h.id ≡ Some h.body) g gs a ∙ e)
     at false is later e = later e
 
-task_is_body : (P : Parts) (S : Plain) (v : Invocation) (o : Option Task) → task_over (view_program P) (look_of S) (option_map view_task o) v ≡ body_run P S o v
+task_is_body : (P : TypedProgram) (S : Plain) (v : Invocation) (o : Option TypedTask) → task_over P (look_of S) o v ≡ body_run P S o v
 task_is_body P S v None = refl
 task_is_body P S v (Some t) = refl
 
 -- over a whole store the run is the invocation's
-pub run_is_body : (P : Parts) (S : Plain) (v : Invocation) → run_over (view_program P) (look_of S) v ≡ body_run P S (slice_get P.tasks v.task) v
-run_is_body P S v =
-    ap (λ o. task_over (view_program P) (look_of S) o v) (slice_get-map view_task P.tasks v.task) ∙ task_is_body P S v (slice_get P.tasks v.task)
+pub run_is_body : (P : TypedProgram) (S : Plain) (v : Invocation) → run_over P (look_of S) v ≡ body_run P S (slice_get P.tasks v.task) v
+run_is_body P S v = task_is_body P S v (slice_get P.tasks v.task)
 
 -- Where a run over more is right, so is the run over less.
 pub right_before : {A : Type 0} (L : Look) (g h : Got A) → ((w : Work) → h ≡ Stops Wrong w → ⊥) → Says L g h → IsRight g

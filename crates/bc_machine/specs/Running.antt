@@ -1,8 +1,7 @@
 -- What a machine's answers say.
 use Rattle.std.specs.Prelude.{◌≡◌, ℕ, List, [], ◌∷◌, ◌++◌, map, Some, None, Result, Ok, Err, slice_get}
 use Rattle.std.specs.declared.alloc.AllocError.{AllocError}
-use Rattle.bc_data.specs.Program.{Parts}
-use Rattle.bc_data.specs.ProgramView.{view_program}
+use Rattle.bc_data.specs.Typed.{TypedProgram}
 use Rattle.bc_data.specs.WellTyped.{IsWellTyped}
 use Rattle.bc_data.specs.declared.run.Body.{Body}
 use Rattle.bc_data.specs.declared.run.Fault.{Fault}
@@ -20,7 +19,7 @@ use Rattle.bc_code.specs.Given.{given_look, ids_of}
 use Rattle.bc_code.specs.Instructions.{On, more, start}
 use Rattle.bc_code.specs.Runs.{run_over}
 use Rattle.bc_code.specs.Translation.{Translates}
-use Rattle.bc_simulation.specs.Laws.{Asked}
+use Rattle.bc_law_code.specs.Laws.{Asked}
 use Rattle.bc_step.specs.declared.area.End.TheVariants as end
 use Rattle.bc_step.specs.Area.{AreaParts, AgreesWith, AreCopies, copies_of, given_of, reads_of, work_with}
 use Rattle.bc_step.specs.State.{state_with}
@@ -30,9 +29,9 @@ use Rattle.bc_machine.specs.declared.machine.Going.TheVariants as going
 use Rattle.bc_machine.specs.declared.machine.Ended.TheVariants as ended
 
 -- The code is that of a well-typed program, and the invocation is enabled in a store that fits it.
-pub record IsRunOf (P : Parts) (S : Plain) (code : Code) (v : Invocation) : Type 0 where
-  pub well_typed : IsWellTyped (view_program P)
-  pub translated : Translates (view_program P) code
+pub record IsRunOf (P : TypedProgram) (S : Plain) (code : Code) (v : Invocation) : Type 0 where
+  pub well_typed : IsWellTyped P
+  pub translated : Translates P code
   pub fits : Fits P S
   pub enabled : IsEnabled P S v
 
@@ -40,9 +39,9 @@ pub record IsRunOf (P : Parts) (S : Plain) (code : Code) (v : Invocation) : Type
 abbrev pub AreBodiesOf : Plain → List ℕ → List Body → Type 0
 AreBodiesOf S ids bodies = map (slice_get S.bodies) ids ≡ map (λ (b : Body). Some b) bodies
 
--- The machine is on its way: the code came from the start to its state, over bodies that the store has; and those were given that
--- the run asked for, in its order.
-pub record IsRunning (P : Parts) (S : Plain) (code : Code) (m : Machine) : Type 0 where
+-- The machine is on its way: the code came from the start to its state, over bodies that the store has, and the run
+-- has not ended; and those were given that the run asked for, in its order.
+pub record IsRunning (P : TypedProgram) (S : Plain) (code : Code) (m : Machine) : Type 0 where
   pub run : IsRunOf P S code m.area.invocation
   pub agrees : AgreesWith S (given_of m.area.held)
   pub others : List ℕ
@@ -51,19 +50,23 @@ pub record IsRunning (P : Parts) (S : Plain) (code : Code) (m : Machine) : Type 
   pub are : AreCopies copies m.area.held
   pub touched : List ℕ
   pub steps : ℕ
-  pub reached : more (reads_of m.area) code steps (start code m.area.invocation) ≡ On (state_with m.state m.area copies touched)
-  pub asked : Asked (given_of m.area.held) (run_over (view_program P) (given_look (given_of m.area.held)) m.area.invocation)
+  pub reached :
+      more (reads_of m.area) code steps (start code m.area.invocation) ≡ On (state_with m.state m.area copies touched)
+  pub going_on : m.area.end ≡ None
+  pub asked :
+      Asked (given_of m.area.held) (run_over P (given_look (given_of m.area.held)) m.area.invocation)
 
 -- some program and store, of which this is a run
 abbrev pub CanGo : Code → Machine → Type 0
-CanGo code m = (P : Parts) × (S : Plain) × IsRunning P S code m
+CanGo code m = (P : TypedProgram) × (S : Plain) × IsRunning P S code m
 
 abbrev pub CanStart : Code → Invocation → List Body → Type 0
-CanStart code v bodies = (P : Parts) × (S : Plain) × IsRunOf P S code v × AreBodiesOf S v.objects bodies
+CanStart code v bodies = (P : TypedProgram) × (S : Plain) × IsRunOf P S code v × AreBodiesOf S v.objects bodies
 
 -- The run over the bodies given stops for this object.
-abbrev pub Needs : Parts → AreaParts → ℕ → Type 0
-Needs P a id = (w : Work) × (run_over (view_program P) (given_look (given_of a.held)) a.invocation ≡ Stops (Missing id) w)
+abbrev pub Needs : TypedProgram → AreaParts → ℕ → Type 0
+Needs P a id =
+    (w : Work) × (run_over P (given_look (given_of a.held)) a.invocation ≡ Stops (Missing id) w)
 
 -- in every store that has the bodies given
 abbrev pub InEach : AreaParts → (Plain → Type 0) → Type 0
@@ -73,25 +76,31 @@ InEach a T = (S : Plain) → AgreesWith S (given_of a.held) → T S
 abbrev pub work_of : AreaParts → Work
 work_of a = work_with a 0 (copies_of a.held) []
 
--- The area is its invocation's run at its exit: its changes and its touched objects are that run's, in every store that has the
--- bodies given.
-pub record IsAtExit (P : Parts) (a : AreaParts) : Type 0 where
+-- The area is its invocation's run at its exit: its changes and its touched objects are that run's, in every store
+-- that has the bodies given.
+pub record IsAtExit (P : TypedProgram) (a : AreaParts) : Type 0 where
   pub end : a.end ≡ Some end.Exit
-  pub run : InEach a (λ S. body_outcome P S a.invocation ≡ record { ran = ran.Commit (changes_between S (work_of a)); touched = ids_of (given_of a.held) })
+  pub run :
+      InEach a (λ S.
+      body_outcome P S a.invocation
+      ≡ record { ran = ran.Commit (changes_between S (work_of a)); touched = ids_of (given_of a.held) })
 
 -- The area is its invocation's run at this fault.
-pub record IsAtFault (P : Parts) (a : AreaParts) (f : Fault) : Type 0 where
+pub record IsAtFault (P : TypedProgram) (a : AreaParts) (f : Fault) : Type 0 where
   pub end : a.end ≡ Some (end.Fault f)
-  pub run : InEach a (λ S. body_outcome P S a.invocation ≡ record { ran = ran.Faulted f; touched = ids_of (given_of a.held) })
+  pub run :
+      InEach a (λ S. body_outcome P S a.invocation ≡ record { ran = ran.Faulted f; touched = ids_of (given_of a.held) })
 
 -- The next object that the run touches, behind those given, is this one, in every store that has the bodies given.
-pub record IsInNeed (P : Parts) (a : AreaParts) (id : ℕ) : Type 0 where
+pub record IsInNeed (P : TypedProgram) (a : AreaParts) (id : ℕ) : Type 0 where
   pub needs : Needs P a id
   pub new : given_look (given_of a.held) id ≡ None
-  pub next : InEach a (λ S. (rest : List ℕ) × ((body_outcome P S a.invocation).touched ≡ ids_of (given_of a.held) ++ id ∷ rest))
+  pub next :
+      InEach a (λ S.
+      (rest : List ℕ) × ((body_outcome P S a.invocation).touched ≡ ids_of (given_of a.held) ++ id ∷ rest))
 
 -- what an answer of `go` says
-abbrev pub Tells : Parts → AreaParts → Going → Type 0
+abbrev pub Tells : TypedProgram → AreaParts → Going → Type 0
 Tells P a (going.Need id) = IsInNeed P a id
 Tells P a (going.Finished ended.Commit) = IsAtExit P a
 Tells P a (going.Finished (ended.Faulted f)) = IsAtFault P a f

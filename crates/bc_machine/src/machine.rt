@@ -3,11 +3,11 @@
 ghost use Rattle.std.specs.Prelude.{◌≡◌, ◌≤◌, ◌+◌, ◌==◌, [], ◌∷◌, ◌++◌, false, None, Some, slice_get, IfOk, OnOk};
 ghost use Rattle.std.specs.Borrow.{sem};
 ghost use Rattle.std.specs.List.{list_any};
-ghost use Rattle.bc_data.specs.Program.{Parts};
+ghost use Rattle.bc_data.specs.Typed.{TypedProgram};
 ghost use Rattle.bc_mean.specs.declared.plain.Plain.{Plain};
 ghost use Rattle.bc_code.specs.declared.code.Code.{Code as CodeParts};
 ghost use Rattle.bc_code.specs.Given.{ids_of};
-ghost use Rattle.bc_step.specs.Area.{given_of};
+ghost use Rattle.bc_step.specs.Area.{given_of, room_of};
 ghost use Rattle.bc_step.specs.State.{KeepsGiven};
 ghost use Rattle.bc_machine.specs.Running.{AreBodiesOf, CanGo, CanStart, IsRunOf, IsRunning, Needs, Tells, runs_on};
 
@@ -63,9 +63,9 @@ impl Machine {
         }
     }
 
-    /// Goes to the start of another invocation, in the memory that the machine has; its own run is dropped. The bodies are those
-    /// of the invocation's objects, in their order. Fails for want of memory alone. After that the machine is of no use until it is
-    /// restarted.
+    /// Goes to the start of another invocation, in the memory that the machine has; its own run is dropped. The
+    /// bodies are those of the invocation's objects, in their order, and take the room of those given before, or
+    /// reserved. Fails for want of memory alone. After that the machine is of no use until it is restarted.
     pub fn restart(
         &mut self,
         code: &Code,
@@ -73,18 +73,20 @@ impl Machine {
         bodies: List<Body>,
     ) -> Result<(), AllocError>
         requires { CanStart code.now v bodies }
-        ensures running { OnOk result ((P : Parts) (S : Plain) → IsRunOf P S code.now v → AreBodiesOf S v.objects bodies → IsRunning P S code.now self.new) }
+        ensures running { OnOk result ((P : TypedProgram) (S : Plain)
+            → IsRunOf P S code.now v → AreBodiesOf S v.objects bodies → IsRunning P S code.now self.new) }
         ensures invocation { OnOk result (self.new.area.invocation ≡ v) }
         ensures given { OnOk result (ids_of (given_of self.new.area.held) ≡ v.objects) }
         ensures end { OnOk result (self.new.area.end ≡ None) }
+        ensures room { room_of self.old.area ≤ room_of self.new.area }
     {
         let named = &v;
         self.state.restart(code, *named)?;
         self.area.restart(v, bodies)
     }
 
-    /// The machine before the first instruction. The bodies are those of the invocation's objects, in their order. Fails for want
-    /// of memory alone.
+    /// The machine before the first instruction. The bodies are those of the invocation's objects, in their order.
+    /// Fails for want of memory alone.
     pub fn start(
         alloc: Global,
         code: &Code,
@@ -92,7 +94,8 @@ impl Machine {
         bodies: List<Body>,
     ) -> Result<Machine, AllocError>
         requires { CanStart code.now v bodies }
-        ensures running { IfOk result (λ m. (P : Parts) (S : Plain) → IsRunOf P S code.now v → AreBodiesOf S v.objects bodies → IsRunning P S code.now m) }
+        ensures running { IfOk result (λ m. (P : TypedProgram) (S : Plain)
+            → IsRunOf P S code.now v → AreBodiesOf S v.objects bodies → IsRunning P S code.now m) }
         ensures invocation { IfOk result (λ m. m.area.invocation ≡ v) }
         ensures given { IfOk result (λ m. ids_of (given_of m.area.held) ≡ v.objects) }
         ensures end { IfOk result (λ m. m.area.end ≡ None) }
@@ -102,23 +105,28 @@ impl Machine {
         Ok(machine)
     }
 
-    /// Runs until it needs an object or ends. After want of memory a whole number of instructions is done, and it may be called
-    /// again, as after a need once the object is given. Whether the changes have room in the store isn't tested here.
+    /// Runs until it needs an object or ends. After want of memory a whole number of instructions is done, and it may
+    /// be called again, as after a need once the object is given; once the run has ended it may not. Whether the
+    /// changes have room in the store isn't tested here.
     pub fn go(&mut self, alloc: Global, code: &Code) -> Result<Going, AllocError>
         requires { CanGo code.now self.old }
         ensures kept { KeepsGiven self.old.area self.new.area }
-        ensures tells { IfOk result (λ going. (P : Parts) (S : Plain) → IsRunning P S code.now self.old → Tells P self.new.area going) }
-        ensures running { (P : Parts) (S : Plain) → IsRunning P S code.now self.old → runs_on result (IsRunning P S code.now self.new) }
+        ensures tells { IfOk result (λ going. (P : TypedProgram) (S : Plain)
+            → IsRunning P S code.now self.old → Tells P self.new.area going) }
+        ensures running { (P : TypedProgram) (S : Plain)
+            → IsRunning P S code.now self.old → runs_on result (IsRunning P S code.now self.new) }
     {
         run_on(alloc, code, &mut self.state, &mut self.area)
     }
 
-    /// Makes room for one object more, which can then be given without memory. After want of memory the run is as it was.
+    /// Makes room for one object more, which can then be given without memory. After want of memory the run is as it
+    /// was.
     pub fn reserve_given(&mut self) -> Result<(), AllocError>
         ensures room { OnOk result (1 ≤ self.new.area.spare) }
         ensures area { self.new.area ≡ record self.old.area { spare = self.new.area.spare } }
         ensures spare { self.old.area.spare ≤ self.new.area.spare }
-        ensures running { (P : Parts) (S : Plain) (code : CodeParts) → IsRunning P S code self.old → IsRunning P S code self.new }
+        ensures running { (P : TypedProgram) (S : Plain) (code : CodeParts)
+            → IsRunning P S code self.old → IsRunning P S code self.new }
     {
         self.area.reserve_given()
     }
@@ -127,9 +135,16 @@ impl Machine {
     pub fn give(&mut self, id: u32, body: Body)
         requires new { list_any (λ other. other == id) (ids_of (given_of self.old.area.held)) ≡ false }
         requires room { 1 ≤ self.old.area.spare }
-        ensures area { self.new.area ≡ record self.old.area { held = self.old.area.held ++ record { id = id; body = body; copy = None } ∷ []; spare = self.new.area.spare } }
+        ensures area { self.new.area ≡ record self.old.area {
+          held = self.old.area.held ++ record { id = id; body = body; copy = None } ∷ [];
+          spare = self.new.area.spare;
+        } }
         ensures spare { self.old.area.spare ≤ self.new.area.spare + 1 }
-        ensures running { (P : Parts) (S : Plain) (code : CodeParts) → IsRunning P S code self.old → Needs P self.old.area id → slice_get S.bodies id ≡ Some body → IsRunning P S code self.new }
+        ensures running { (P : TypedProgram) (S : Plain) (code : CodeParts)
+            → IsRunning P S code self.old
+            → Needs P self.old.area id
+            → slice_get S.bodies id ≡ Some body
+            → IsRunning P S code self.new }
     {
         self.area.give(id, body);
     }

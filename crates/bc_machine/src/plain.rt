@@ -1,7 +1,7 @@
 // Runs over whole stores.
 
 ghost use Rattle.std.specs.Prelude.{◌<◌, length, All, IfOk};
-ghost use Rattle.bc_data.specs.Program.{Parts};
+ghost use Rattle.bc_data.specs.Typed.{TypedProgram};
 ghost use Rattle.bc_machine.specs.Running.{AreBodiesOf, IsRunOf, IsRunning};
 ghost use Rattle.bc_machine.specs.Whole.{ComesTo};
 
@@ -32,16 +32,18 @@ fn bodies_of(alloc: Global, store: &Plain, ids: &[u32]) -> Result<List<Body>, Al
     Ok(bodies)
 }
 
-/// Gives a machine the bodies that it asks for, one by one, until the run ends. There are no more needs than bodies, since each
-/// is of another object.
+/// Gives a machine the bodies that it asks for, one by one, until the run ends. There are no more needs than bodies,
+/// since each is of another object.
 fn run_to_end(
     alloc: Global,
     code: &Code,
     store: &Plain,
     machine: &mut Machine,
 ) -> Result<Ended, AllocError>
-    requires { (P : Parts) × IsRunning P store.now code.now machine.old }
-    ensures { IfOk result (λ ended. (P : Parts) → IsRunning P store.now code.now machine.old → ComesTo P store.now machine.old.area.invocation ended machine.new.area) }
+    requires { (P : TypedProgram) × IsRunning P store.now code.now machine.old }
+    ensures { IfOk result (λ ended. (P : TypedProgram)
+        → IsRunning P store.now code.now machine.old
+        → ComesTo P store.now machine.old.area.invocation ended machine.new.area) }
 {
     for _ in 0..u64::MAX {
         match machine.go(alloc, code)? {
@@ -56,11 +58,12 @@ fn run_to_end(
     unreachable!()
 }
 
-/// Runs an invocation by its code over a whole store, from which it takes the bodies that it asks for, one by one. Whether its
-/// changes have room in the store isn't tested here. The error is want of memory.
+/// Runs an invocation by its code over a whole store, from which it takes the bodies that it asks for, one by one.
+/// Whether its changes have room in the store isn't tested here. The error is want of memory.
 pub fn run_over(alloc: Global, code: &Code, store: &Plain, v: Invocation) -> Result<Run, AllocError>
-    requires { (P : Parts) × IsRunOf P store.now code.now v }
-    ensures { IfOk result (λ run. (P : Parts) → IsRunOf P store.now code.now v → ComesTo P store.now v run.ended run.area) }
+    requires { (P : TypedProgram) × IsRunOf P store.now code.now v }
+    ensures { IfOk result (λ run. (P : TypedProgram)
+        → IsRunOf P store.now code.now v → ComesTo P store.now v run.ended run.area) }
 {
     let bodies = bodies_of(alloc, store, v.objects.as_slice())?;
     let mut machine = Machine::start(alloc, code, v, bodies)?;

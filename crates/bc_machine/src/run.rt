@@ -21,9 +21,13 @@ pub fn run_on(
     area: &mut Area,
 ) -> Result<Going, AllocError>
     requires { CanRun code.now state.old area.old }
-    ensures ok { IfOk result (λ going. (from : Course) (k : ℕ) → Reaches (reads_of area.old) code.now from k state.old area.old → Halts (reads_of area.old) code.now from going state.new area.new) }
+    ensures ok { IfOk result (λ going. (from : Course) (k : ℕ)
+        → Reaches (reads_of area.old) code.now from k state.old area.old
+        → Halts (reads_of area.old) code.now from going state.new area.new) }
     ensures kept { KeepsGiven area.old area.new }
-    ensures err { OnErr result ((from : Course) (k : ℕ) → Reaches (reads_of area.old) code.now from k state.old area.old → Comes (reads_of area.old) code.now from state.new area.new) }
+    ensures err { OnErr result ((from : Course) (k : ℕ)
+        → Reaches (reads_of area.old) code.now from k state.old area.old
+        → Comes (reads_of area.old) code.now from state.new area.new) }
 {
     for _ in 0..u64::MAX {
         match step(alloc, code, state, area)? {

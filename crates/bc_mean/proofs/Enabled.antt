@@ -12,9 +12,9 @@ use Rattle.std.proofs.lemmas.List.Elements.{recursion_from_All}
 use Rattle.std.proofs.lemmas.List.Kept.{AllPairs-filter}
 use Rattle.std.proofs.lemmas.Option.{slice_get_past}
 use Rattle.bc_data.specs.Guard.{guard_truth}
-use Rattle.bc_data.specs.Program.{Parts}
-use Rattle.bc_data.specs.declared.program.Param.{Param}
-use Rattle.bc_data.specs.declared.program.Task.{Task}
+use Rattle.bc_data.specs.Typed.{TypedProgram}
+use Rattle.bc_data.specs.Typed.{TypedParam}
+use Rattle.bc_data.specs.Typed.{TypedTask}
 use Rattle.bc_data.specs.declared.run.Body.{Body}
 use Rattle.bc_data.specs.declared.run.Invocation.{Invocation}
 use Rattle.bc_mean.specs.declared.plain.Plain.{Plain}
@@ -76,25 +76,25 @@ invocation n objects instances = record { task = n; objects = objects; tags = in
 abbrev IsOn : ℕ → List ℕ → Invocation → Type 0
 IsOn n objects v = (v.task ≡ n) × (v.objects ≡ objects)
 
-task_chain : (S : Plain) (n : ℕ) (o : Option Task) → Chain Before (invocations_of S n o)
+task_chain : (S : Plain) (n : ℕ) (o : Option TypedTask) → Chain Before (invocations_of S n o)
 task_chain S n None = tt
 task_chain S n (Some t) =
-    let instances = tuples (length S.tags) (length t.variables.items) in
+    let instances = tuples (length S.tags) (length t.variables) in
     chain_flat_map Below Before (λ objects. map (invocation n objects) instances) (IsOn n)
     (λ objects. each_map (IsOn n objects) (invocation n objects) (λ tags. (refl, refl)) instances)
     (λ x y a b l p q. by_objects a b (p.0 ∙ sym q.0) (subst (λ (z : List ℕ). Below z b.objects) (sym p.1) (subst (Below x) (sym q.1) l)))
-    (λ objects. chain_map Below Before (invocation n objects) (λ u v h. by_tags (invocation n objects u) (invocation n objects v) refl refl h) instances (tuples_chain (length S.tags) (length t.variables.items)))
-    (tuples (length S.bodies) (length t.params.items)) (tuples_chain (length S.bodies) (length t.params.items))
+    (λ objects. chain_map Below Before (invocation n objects) (λ u v h. by_tags (invocation n objects u) (invocation n objects v) refl refl h) instances (tuples_chain (length S.tags) (length t.variables)))
+    (tuples (length S.bodies) (length t.params)) (tuples_chain (length S.bodies) (length t.params))
 
-of_task : (S : Plain) (n : ℕ) (o : Option Task) → AllByRecursion (λ v. v.task ≡ n) (invocations_of S n o)
+of_task : (S : Plain) (n : ℕ) (o : Option TypedTask) → AllByRecursion (λ v. v.task ≡ n) (invocations_of S n o)
 of_task S n None = tt
 of_task S n (Some t) =
-    let instances = tuples (length S.tags) (length t.variables.items) in
+    let instances = tuples (length S.tags) (length t.variables) in
     each_flat_map (λ v. v.task ≡ n) (λ objects. map (invocation n objects) instances)
     (λ objects. each_map (λ v. v.task ≡ n) (invocation n objects) (λ tags. refl) instances)
-    (tuples (length S.bodies) (length t.params.items))
+    (tuples (length S.bodies) (length t.params))
 
-all_chain : (P : Parts) (S : Plain) → Chain Before (all_invocations P S)
+all_chain : (P : TypedProgram) (S : Plain) → Chain Before (all_invocations P S)
 all_chain P S =
     chain_flat_map (λ x y. x < y) Before (λ n. invocations_of S n (slice_get P.tasks n)) (λ n v. v.task ≡ n)
     (λ n. of_task S n (slice_get P.tasks n))
@@ -121,7 +121,7 @@ in_tuples n (suc k) (x ∷ xs) e h =
     in_flat_map (λ y. map (λ ys. y ∷ ys) (tuples n k)) x (x ∷ xs) (range_with_len 0 n) (in_range 0 n x (omega arith) (omega (arith, h.0)))
     (in_map (λ ys. x ∷ ys) xs (tuples n k) (in_tuples n k xs (omega arith) h.1))
 
-taken : (S : Plain) (t : Task) (instances : List ℕ) (ps : List Param) (ids : List ℕ) → take_all S t instances ps ids ≡ true → (length ids ≡ length ps) × AllByRecursion (λ id. id < length S.bodies) ids
+taken : (S : Plain) (t : TypedTask) (instances : List ℕ) (ps : List TypedParam) (ids : List ℕ) → take_all S t instances ps ids ≡ true → (length ids ≡ length ps) × AllByRecursion (λ id. id < length S.bodies) ids
 taken S t instances [] [] h = (refl, tt)
 taken S t instances [] (id ∷ ids) h = absurd (false≢true h)
 taken S t instances (p ∷ ps) [] h = absurd (false≢true h)
@@ -135,27 +135,27 @@ named_there m [] h = tt
 named_there m (n ∷ ns) h = let q = and_parts (nat_lt n m) (list_all (λ k. nat_lt k m) ns) h in (ltb-true n m q.0, named_there m ns q.1)
 
 -- that an invocation is enabled, of its task
-abbrev enabled_task : Plain → Invocation → Task → Bool
+abbrev enabled_task : Plain → Invocation → TypedTask → Bool
 enabled_task S v t =
-    (length v.tags == length t.variables.items) && take_all S t v.tags t.params.items v.objects && are_different v.objects
+    (length v.tags == length t.variables) && take_all S t v.tags t.params v.objects && are_different v.objects
     && list_all (λ n. nat_lt n (length S.tags)) v.tags
 
-in_task : (S : Plain) (v : Invocation) (o : Option Task) → is_some_and o (enabled_task S v) ≡ true → In v (invocations_of S v.task o)
+in_task : (S : Plain) (v : Invocation) (o : Option TypedTask) → is_some_and o (enabled_task S v) ≡ true → In v (invocations_of S v.task o)
 in_task S v None h = absurd (false≢true h)
 in_task S v (Some t) h =
     let there = list_all (λ n. nat_lt n (length S.tags)) v.tags in
-    let fits = take_all S t v.tags t.params.items v.objects in
-    let long = length v.tags == length t.variables.items in
+    let fits = take_all S t v.tags t.params v.objects in
+    let long = length v.tags == length t.variables in
     let q = and_parts (long && fits && are_different v.objects) there h in
     let r = and_parts (long && fits) (are_different v.objects) q.0 in
     let s = and_parts long fits r.0 in
-    let k = taken S t v.tags t.params.items v.objects s.1 in
-    let instances = tuples (length S.tags) (length t.variables.items) in
-    in_flat_map (λ objects. map (invocation v.task objects) instances) v.objects v (tuples (length S.bodies) (length t.params.items))
-    (in_tuples (length S.bodies) (length t.params.items) v.objects k.0 k.1)
-    (in_map (invocation v.task v.objects) v.tags instances (in_tuples (length S.tags) (length t.variables.items) v.tags (eqb-true _ _ s.0) (named_there (length S.tags) v.tags q.1)))
+    let k = taken S t v.tags t.params v.objects s.1 in
+    let instances = tuples (length S.tags) (length t.variables) in
+    in_flat_map (λ objects. map (invocation v.task objects) instances) v.objects v (tuples (length S.bodies) (length t.params))
+    (in_tuples (length S.bodies) (length t.params) v.objects k.0 k.1)
+    (in_map (invocation v.task v.objects) v.tags instances (in_tuples (length S.tags) (length t.variables) v.tags (eqb-true _ _ s.0) (named_there (length S.tags) v.tags q.1)))
 
-in_all : (P : Parts) (S : Plain) (v : Invocation) → is_enabled P S v ≡ true → In v (all_invocations P S)
+in_all : (P : TypedProgram) (S : Plain) (v : Invocation) → is_enabled P S v ≡ true → In v (all_invocations P S)
 in_all P S v h =
     in_flat_map (λ n. invocations_of S n (slice_get P.tasks n)) v.task v (range_with_len 0 (length P.tasks))
     (in_range 0 (length P.tasks) v.task (omega arith) (let l : v.task < length P.tasks = inside P.tasks v.task (enabled_task S v) h in omega arith))
@@ -206,8 +206,8 @@ module _ (S T : Plain) where
   types_alone mine ask None h = refl
   types_alone mine ask (Some n) h = ap (λ (o : Option ℕ). mine n && is_some_and o ask) (h n refl)
 
-  carries_alone : (t : Task) (instances : List ℕ) → AllByRecursion SameType instances → (b : Body) (variable : ℕ) → carries S t instances b variable ≡ carries T t instances b variable
-  carries_alone t instances h b variable = of_type (slice_get t.variables.items variable)
+  carries_alone : (t : TypedTask) (instances : List ℕ) → AllByRecursion SameType instances → (b : Body) (variable : ℕ) → carries S t instances b variable ≡ carries T t instances b variable
+  carries_alone t instances h b variable = of_type (slice_get t.variables variable)
     where
       of_type : (o : Option ℕ) →
           is_some_and o (λ type. is_some_and (slice_get instances variable) (λ n. list_any (is_instance n) b.tags && is_some_and (slice_get S.tags n) (λ own. own == type)))
@@ -215,17 +215,17 @@ module _ (S T : Plain) where
       of_type None = refl
       of_type (Some type) = types_alone (λ n. list_any (is_instance n) b.tags) (λ own. own == type) (slice_get instances variable) (λ n e. got SameType instances variable n h e)
 
-  takes_alone : (t : Task) (instances : List ℕ) → AllByRecursion SameType instances → (p : Param) (id : ℕ) → SameBody id → takes S t instances p id ≡ takes T t instances p id
+  takes_alone : (t : TypedTask) (instances : List ℕ) → AllByRecursion SameType instances → (p : TypedParam) (id : ℕ) → SameBody id → takes S t instances p id ≡ takes T t instances p id
   takes_alone t instances h p id e = of_body (slice_get S.bodies id) ∙ ap (λ (o : Option Body). is_some_and o (fits_in T)) e
     where
       fits_in : Plain → Body → Bool
-      fits_in U b = is_class p.class b.kind && guard_truth p.guard b.flags && list_all (carries U t instances b) p.binds.items
+      fits_in U b = is_class p.class b.kind && guard_truth p.guard b.flags && list_all (carries U t instances b) p.binds
 
       of_body : (o : Option Body) → is_some_and o (fits_in S) ≡ is_some_and o (fits_in T)
       of_body None = refl
-      of_body (Some b) = ap (λ (c : Bool). is_class p.class b.kind && guard_truth p.guard b.flags && c) (all_alike (carries S t instances b) (carries T t instances b) (carries_alone t instances h b) p.binds.items)
+      of_body (Some b) = ap (λ (c : Bool). is_class p.class b.kind && guard_truth p.guard b.flags && c) (all_alike (carries S t instances b) (carries T t instances b) (carries_alone t instances h b) p.binds)
 
-  take_all_alone : (t : Task) (instances : List ℕ) → AllByRecursion SameType instances → (ps : List Param) (ids : List ℕ) → AllByRecursion SameBody ids → take_all S t instances ps ids ≡ take_all T t instances ps ids
+  take_all_alone : (t : TypedTask) (instances : List ℕ) → AllByRecursion SameType instances → (ps : List TypedParam) (ids : List ℕ) → AllByRecursion SameBody ids → take_all S t instances ps ids ≡ take_all T t instances ps ids
   take_all_alone t instances h [] [] a = refl
   take_all_alone t instances h [] (id ∷ ids) a = refl
   take_all_alone t instances h (p ∷ ps) [] a = refl
@@ -235,10 +235,10 @@ module _ (S T : Plain) where
   there_alone [] h = refl
   there_alone (n ∷ ns) h = ap₂ (λ (b : Bool) (c : Bool). b && c) (there S.tags n ∙ ap is_some h.0 ∙ sym (there T.tags n)) (there_alone ns h.1)
 
-  task_alone : (v : Invocation) → AllByRecursion SameBody v.objects → AllByRecursion SameType v.tags → (o : Option Task) → is_some_and o (enabled_task S v) ≡ is_some_and o (enabled_task T v)
+  task_alone : (v : Invocation) → AllByRecursion SameBody v.objects → AllByRecursion SameType v.tags → (o : Option TypedTask) → is_some_and o (enabled_task S v) ≡ is_some_and o (enabled_task T v)
   task_alone v a h None = refl
   task_alone v a h (Some t) =
-      ap₂ (λ (b : Bool) (c : Bool). (length v.tags == length t.variables.items) && b && are_different v.objects && c) (take_all_alone t v.tags h t.params.items v.objects a) (there_alone v.tags h)
+      ap₂ (λ (b : Bool) (c : Bool). (length v.tags == length t.variables) && b && are_different v.objects && c) (take_all_alone t v.tags h t.params v.objects a) (there_alone v.tags h)
 
 pub named_alone : NamedAlone
 named_alone P S T v a h =

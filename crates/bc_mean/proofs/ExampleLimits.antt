@@ -1,7 +1,6 @@
 -- The worked examples at the edges of the limits hold.
 use Rattle.std.proofs.Common.{refl, ◌≡◌, ℕ, ◌+◌, ◌<◌, ◌≤◌, true, false, List, ◌++◌, length, nat_lt, ◌∙◌, arith, length-append}
 use Rattle.std.proofs.lemmas.Bool.{le-leb, le-ltb, lt-leb, lt-ltb}
-use Rattle.std.specs.Global.{Global}
 use Rattle.std.specs.Prelude.{if◌then◌else◌, nat_le, None, Option, Some}
 use Rattle.bc_data.specs.declared.run.Changes.{Changes}
 use Rattle.bc_data.specs.declared.run.FaultKind.{FaultKind}
@@ -65,8 +64,8 @@ room_holds S c = record {
     d : ℕ
     d = length S.output + length c.text
 
-pub text_holds : (alloc : Global) (at : Place) (first second : List ℕ) → TextExamples alloc at first second
-text_holds alloc at first second = record {
+pub text_holds : (at : Place) (first second : List ℕ) → TextExamples at first second
+text_holds at first second = record {
   full = λ e.
       let e1 : nat_le (0 + length first) 65536 ≡ true = le-leb _ _ (omega arith) in
       let e2 : nat_le (length first + length second) 65536 ≡ true = le-leb _ _ (omega arith) in
@@ -81,12 +80,12 @@ text_holds alloc at first second = record {
       rw e1 refl;
 }
 
-pub exits_hold : (alloc : Global) → ExitExamples alloc
-exits_hold alloc = record { sets_a_set_flag = refl; clears_and_sets = refl; clears = refl }
+pub exits_hold : ExitExamples
+exits_hold = record { sets_a_set_flag = refl; clears_and_sets = refl; clears = refl }
 
-pub output_holds : (alloc : Global) (output text : List ℕ) (history : List Invocation) → OutputExamples alloc output text history
+pub output_holds : (output text : List ℕ) (history : List Invocation) → OutputExamples output text history
 unfolding all_enabled
-output_holds alloc output text history = record {
+output_holds output text history = record {
   no_room = λ h e.
       let e1 : nat_le (0 + length text) 65536 ≡ true = le-leb _ _ (omega arith) in
       let e2 : nat_lt 16777216 (length output + length text) ≡ true = lt-ltb _ _ (omega arith) in

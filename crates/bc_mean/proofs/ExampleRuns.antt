@@ -1,16 +1,15 @@
 -- The worked examples of whole runs and of enabled invocations hold, by computation.
 use Rattle.std.proofs.Common.{refl, arith, [], ◌∷◌}
-use Rattle.std.specs.Global.{Global}
 use Rattle.std.specs.Prelude.{codes}
 use Rattle.bc_data.specs.declared.run.Stop.TheVariants as stop
 use Rattle.bc_mean.specs.Enabled.{all_enabled}
 use Rattle.bc_mean.specs.Serial.{course_at_start, serial_steps}
 use Rattle.bc_mean.specs.Examples.{EnabledExamples, RunExamples, RunsSo, again, empty_program, hello, on_startup, two_tasks}
 
-hello_ends : (alloc : Global) → RunsSo (hello alloc) 100 stop.End (on_startup 0 ∷ []) (codes "hello\n")
+hello_ends : RunsSo hello 100 stop.End (on_startup 0 ∷ []) (codes "hello\n")
 unfolding all_enabled
-hello_ends alloc = record {
-  course = serial_steps (hello alloc) 100 2 (course_at_start (hello alloc) []);
+hello_ends = record {
+  course = serial_steps hello 100 2 (course_at_start hello []);
   run = record { steps = 2; reached = refl; ended = refl };
   history_is = refl;
   output_is = refl;
@@ -18,10 +17,10 @@ hello_ends alloc = record {
   replayed = refl;
 }
 
-empty_ends : (alloc : Global) → RunsSo (empty_program alloc) 1 stop.End [] []
+empty_ends : RunsSo empty_program 1 stop.End [] []
 unfolding all_enabled
-empty_ends alloc = record {
-  course = serial_steps (empty_program alloc) 1 1 (course_at_start (empty_program alloc) []);
+empty_ends = record {
+  course = serial_steps empty_program 1 1 (course_at_start empty_program []);
   run = record { steps = 1; reached = refl; ended = refl };
   history_is = refl;
   output_is = refl;
@@ -29,10 +28,10 @@ empty_ends alloc = record {
   replayed = refl;
 }
 
-again_is_spent : (alloc : Global) → RunsSo (again alloc) 3 (stop.Spent (on_startup 0)) (on_startup 0 ∷ on_startup 0 ∷ on_startup 0 ∷ []) (codes "xxx")
+again_is_spent : RunsSo again 3 (stop.Spent (on_startup 0)) (on_startup 0 ∷ on_startup 0 ∷ on_startup 0 ∷ []) (codes "xxx")
 unfolding all_enabled
-again_is_spent alloc = record {
-  course = serial_steps (again alloc) 3 4 (course_at_start (again alloc) []);
+again_is_spent = record {
+  course = serial_steps again 3 4 (course_at_start again []);
   run = record { steps = 4; reached = refl; ended = refl };
   history_is = refl;
   output_is = refl;
@@ -40,10 +39,10 @@ again_is_spent alloc = record {
   replayed = refl;
 }
 
-turns : (alloc : Global) → RunsSo (two_tasks alloc) 3 (stop.Spent (on_startup 1)) (on_startup 0 ∷ on_startup 1 ∷ on_startup 0 ∷ []) (codes "aba")
+turns : RunsSo two_tasks 3 (stop.Spent (on_startup 1)) (on_startup 0 ∷ on_startup 1 ∷ on_startup 0 ∷ []) (codes "aba")
 unfolding all_enabled
-turns alloc = record {
-  course = serial_steps (two_tasks alloc) 3 4 (course_at_start (two_tasks alloc) []);
+turns = record {
+  course = serial_steps two_tasks 3 4 (course_at_start two_tasks []);
   run = record { steps = 4; reached = refl; ended = refl };
   history_is = refl;
   output_is = refl;
@@ -51,19 +50,19 @@ turns alloc = record {
   replayed = refl;
 }
 
-pub runs_hold : (alloc : Global) → RunExamples alloc
+pub runs_hold : RunExamples
 unfolding all_enabled hello_ends
-runs_hold alloc = record {
-  hello_ends = hello_ends alloc;
+runs_hold = record {
+  hello_ends = hello_ends;
   hello_is_quiet = λ k d h. absurd (omega arith);
-  empty_ends = empty_ends alloc;
-  again_is_spent = again_is_spent alloc;
-  turns = turns alloc;
+  empty_ends = empty_ends;
+  again_is_spent = again_is_spent;
+  turns = turns;
 }
 
-pub enabled_hold : (alloc : Global) → EnabledExamples alloc
+pub enabled_hold : EnabledExamples
 unfolding all_enabled
-enabled_hold alloc = record {
+enabled_hold = record {
   negated_guard = refl;
   negated_guard_holds = refl;
   flag_cleared = refl;

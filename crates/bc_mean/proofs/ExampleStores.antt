@@ -1,15 +1,13 @@
 -- The worked examples of pending lists, of changes and of stores that fit hold.
 use Rattle.std.proofs.Common.{refl, ◌≡◌, ℕ, ◌<◌, ◌≤◌, ◌^◌, ◌∙◌, ap, sym, subst, List, [], ◌∷◌, length, arith, lit<, lit≤}
-use Rattle.std.specs.Global.{Global}
 use Rattle.std.specs.Prelude.{All, FitsSigned, Option, Some, None, codes, get_or, pos, slice_get}
 use Rattle.std.specs.Int.{w32}
 use Rattle.std.proofs.lemmas.Int.{fits_signed_from_abs}
 use Rattle.std.proofs.lemmas.List.{length-map}
 use Rattle.std.proofs.lemmas.List.Elements.{All-cons, All-map, All-nil}
-use Rattle.bc_data.specs.Program.{Parts}
-use Rattle.bc_data.specs.declared.program.Class.{Class}
+use Rattle.bc_data.specs.Startup.{startup_class}
+use Rattle.bc_data.specs.Typed.{TypedClass, TypedProgram, TypedTask}
 use Rattle.bc_data.specs.declared.program.Shape.TheVariants as shape
-use Rattle.bc_data.specs.declared.program.Task.{Task}
 use Rattle.bc_data.specs.declared.run.Body.{Body}
 use Rattle.bc_data.specs.declared.run.Kind.TheVariants as kind
 use Rattle.bc_data.specs.declared.run.TagRef.TheVariants as tag
@@ -17,11 +15,11 @@ use Rattle.bc_data.specs.declared.run.Value.TheVariants as value
 use Rattle.bc_mean.specs.declared.plain.Plain.{Plain}
 use Rattle.bc_mean.specs.Enabled.{all_enabled}
 use Rattle.bc_mean.specs.Store.{Fits, FitsAs, HasShape, HaveShapes, IsArray, IsObject, IsPresentTag, input_array, start_store, startup_object}
-use Rattle.bc_mean.specs.Examples.{ChangeExamples, FitExamples, PendingExamples, cleared_startup, flagged, flagged_class, joins, program, startup_class, with_object}
+use Rattle.bc_mean.specs.Examples.{ChangeExamples, FitExamples, PendingExamples, cleared_startup, flagged, flagged_class, joins, program, with_object}
 
-pub pending_holds : (alloc : Global) → PendingExamples alloc
+pub pending_holds : PendingExamples
 unfolding all_enabled
-pending_holds alloc = record {
+pending_holds = record {
   ascending = refl;
   kept_first = refl;
   not_running = refl;
@@ -34,9 +32,9 @@ pub changes_hold : ChangeExamples
 changes_hold = record { applied = refl; order_of_tags = refl; changed = refl }
 
 -- an object 0 of the startup class that names an array at 1
-startup_fits : (alloc : Global) (P : Parts) (S : Plain) (array : Body) (mask : ℕ) → slice_get P.classes 0 ≡ Some (startup_class alloc) → slice_get S.bodies 1 ≡ Some array → array.kind ≡ kind.Ints → mask < 2 → IsObject P S 0 (record { kind = kind.Class 0; cells = value.Old 1 ∷ []; flags = mask; tags = [] })
-startup_fits alloc P S array mask e f k m = record {
-  class = startup_class alloc;
+startup_fits : (P : TypedProgram) (S : Plain) (array : Body) (mask : ℕ) → slice_get P.classes 0 ≡ Some (startup_class) → slice_get S.bodies 1 ≡ Some array → array.kind ≡ kind.Ints → mask < 2 → IsObject P S 0 (record { kind = kind.Class 0; cells = value.Old 1 ∷ []; flags = mask; tags = [] })
+startup_fits P S array mask e f k m = record {
+  class = startup_class;
   declared = e;
   cells = ((array, f, k), tt);
   flags = m;
@@ -56,14 +54,14 @@ ints_fit S input bytes h = record {
   tags = refl;
 }
 
-start_fits : (alloc : Global) (tasks : List Task) (input : List ℕ) → All (λ b. b < 256) input → length input ≤ 65536 → Fits (program alloc tasks) (start_store input)
-start_fits alloc tasks input bytes h =
-    let P = program alloc tasks in
+start_fits : (tasks : List TypedTask) (input : List ℕ) → All (λ b. b < 256) input → length input ≤ 65536 → Fits (program tasks) (start_store input)
+start_fits tasks input bytes h =
+    let P = program tasks in
     let S = start_store input in
     let fits : Body → Type 0 = λ b. FitsAs P S b.kind b in
     record {
       bodies =
-          All-cons fits startup_object (input_array input ∷ []) (startup_fits alloc P S (input_array input) 1 refl refl refl (lit< tt))
+          All-cons fits startup_object (input_array input ∷ []) (startup_fits P S (input_array input) 1 refl refl refl (lit< tt))
           (All-cons fits (input_array input) [] (ints_fit S input bytes h) (All-nil fits));
       types = All-nil _;
       objects = lit≤ tt;
@@ -72,19 +70,19 @@ start_fits alloc tasks input bytes h =
       output = lit≤ tt;
     }
 
-tagged_fits : (alloc : Global) → Fits (joins alloc) (with_object (flagged 1 (tag.Old 0 ∷ [])))
-tagged_fits alloc =
-    let P = joins alloc in
+tagged_fits : Fits joins (with_object (flagged 1 (tag.Old 0 ∷ [])))
+tagged_fits =
+    let P = joins in
     let b = flagged 1 (tag.Old 0 ∷ []) in
     let S = with_object b in
     let fits : Body → Type 0 = λ b. FitsAs P S b.kind b in
     record {
       bodies =
-          All-cons fits cleared_startup (input_array [] ∷ b ∷ []) (startup_fits alloc P S (input_array []) 0 refl refl refl (lit< tt))
+          All-cons fits cleared_startup (input_array [] ∷ b ∷ []) (startup_fits P S (input_array []) 0 refl refl refl (lit< tt))
           (All-cons fits (input_array []) (b ∷ []) (ints_fit S [] (All-nil _) (lit≤ tt))
           (All-cons fits b []
           (record {
-            class = flagged_class alloc (codes "L");
+            class = flagged_class (codes "L");
             declared = refl;
             cells = tt;
             flags = lit< tt;
@@ -113,35 +111,35 @@ not_ints : (c : ℕ) → kind.Ints ≡ kind.Class c → ⊥
 not_ints c e = cc
 
 -- the object in question
-object_of : (alloc : Global) (b : Body) → Fits (joins alloc) (with_object b) → FitsAs (joins alloc) (with_object b) b.kind b
-object_of alloc b h = h.bodies 2 b (lit< tt)
+object_of : (b : Body) → Fits joins (with_object b) → FitsAs joins (with_object b) b.kind b
+object_of b h = h.bodies 2 b (lit< tt)
 
-pub fits_hold : (alloc : Global) → FitExamples alloc
-fits_hold alloc = record {
-  start = start_fits alloc;
-  tagged = tagged_fits alloc;
+pub fits_hold : FitExamples
+fits_hold = record {
+  start = start_fits;
+  tagged = tagged_fits;
   unknown_flag = λ h.
-      let o = object_of alloc _ h in
-      let m : 2 < 2 ^ 1 = subst (λ (c : Class). 2 < 2 ^ length c.flags.items) (sym (from_some o.declared)) o.flags in
+      let o = object_of _ h in
+      let m : 2 < 2 ^ 1 = subst (λ (c : TypedClass). 2 < 2 ^ length c.flags) (sym (from_some o.declared)) o.flags in
       absurd (omega arith);
   unknown_instance = λ h.
-      let o = object_of alloc _ h in
+      let o = object_of _ h in
       let m : 1 < 1 = o.present_tags 0 (tag.Old 0) (lit< tt) in
       absurd (omega arith);
   one_instance_twice = λ h.
-      let o = object_of alloc _ h in
+      let o = object_of _ h in
       o.different_tags 0 1 (tag.Old 0) (lit< tt) (lit< tt) refl;
   unknown_class = λ h.
-      let o = object_of alloc _ h in
+      let o = object_of _ h in
       no_some o.declared;
   cell_too_many = λ h.
-      let o = object_of alloc _ h in
-      subst (λ (c : Class). HaveShapes (with_object (record { kind = kind.Class 1; cells = value.Null ∷ []; flags = 1; tags = [] })) c.fields.items (value.Null ∷ [])) (sym (from_some o.declared)) o.cells;
+      let o = object_of _ h in
+      subst (λ (c : TypedClass). HaveShapes (with_object (record { kind = kind.Class 1; cells = value.Null ∷ []; flags = 1; tags = [] })) c.fields (value.Null ∷ [])) (sym (from_some o.declared)) o.cells;
   int_too_large = λ h.
-      let o = object_of alloc _ h in
+      let o = object_of _ h in
       too_large (o.cells 0 value.Null (lit< tt));
   wrong_element = λ h.
-      let o = object_of alloc _ h in
+      let o = object_of _ h in
       let k = o.1.cells 0 value.Null (lit< tt) in
       not_ints 1 (ap (λ (b : Body). b.kind) (from_some k.1) ∙ k.2);
 }

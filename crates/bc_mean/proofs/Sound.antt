@@ -6,7 +6,7 @@ use Rattle.std.proofs.lemmas.Bool.{false≢true, and_parts, or_parts, cond_both,
 use Rattle.std.proofs.lemmas.List.Elements.{All-from_recursion, filter_passes, recursion_from_All}
 use Rattle.std.proofs.lemmas.List.Kept.{AllPairs-filter}
 use Rattle.std.proofs.lemmas.List.Quantifiers.{all_pairs_push}
-use Rattle.bc_data.specs.Program.{Parts}
+use Rattle.bc_data.specs.Typed.{TypedProgram}
 use Rattle.bc_data.specs.declared.run.Fault.{Fault}
 use Rattle.bc_data.specs.declared.run.Invocation.{Invocation}
 use Rattle.bc_data.specs.declared.run.Ran.{Ran}
@@ -78,10 +78,10 @@ each_itself (v ∷ vs) = (listed_here v vs, each_weaker (λ w. listed vs w ≡ t
 before_differ : (v w : Invocation) → precedes v w ≡ true → v ≢ w
 before_differ v w h e = false≢true (sym (never_before_itself v) ∙ subst (λ (z : Invocation). precedes v z ≡ true) (sym e) h)
 
-all_once : (P : Parts) (S : Plain) → AllPairs Differ (all_enabled P S)
+all_once : (P : TypedProgram) (S : Plain) → AllPairs Differ (all_enabled P S)
 all_once P S = λ i j d a b. before_differ _ _ (all_ascending P S i j d a b)
 
-module _ (P : Parts) (input : List ℕ) (limit : ℕ) (r : Course) (sound : IsSound P input limit r) where
+module _ (P : TypedProgram) (input : List ℕ) (limit : ℕ) (r : Course) (sound : IsSound P input limit r) where
   stopped_sound : (s : Stop) → StopsFor P limit (stopped s r) (Some s) → IsSound P input limit (stopped s r)
   stopped_sound s h = record {
     replayed = sound.replayed;
@@ -180,7 +180,7 @@ module _ (P : Parts) (input : List ℕ) (limit : ℕ) (r : Course) (sound : IsSo
   ended_sound (Some s) e = sound
   ended_sound None e = pending_sound r.pending refl e
 
-start_sound : (P : Parts) (input : List ℕ) (limit : ℕ) → IsSound P input limit (course_at_start P input)
+start_sound : (P : TypedProgram) (input : List ℕ) (limit : ℕ) → IsSound P input limit (course_at_start P input)
 start_sound P input limit = record {
   replayed = refl;
   within = omega arith;
@@ -194,14 +194,14 @@ start_sound P input limit = record {
     with_none true = refl
     with_none false = refl
 
-step_sound : (P : Parts) (input : List ℕ) (limit : ℕ) (r : Course) → IsSound P input limit r → IsSound P input limit (serial_step P limit r)
+step_sound : (P : TypedProgram) (input : List ℕ) (limit : ℕ) (r : Course) → IsSound P input limit r → IsSound P input limit (serial_step P limit r)
 step_sound P input limit r sound = ended_sound P input limit r sound r.ended refl
 
-steps_sound : (P : Parts) (input : List ℕ) (limit : ℕ) (n : ℕ) (r : Course) → IsSound P input limit r → IsSound P input limit (serial_steps P limit n r)
+steps_sound : (P : TypedProgram) (input : List ℕ) (limit : ℕ) (n : ℕ) (r : Course) → IsSound P input limit r → IsSound P input limit (serial_steps P limit n r)
 steps_sound P input limit zero r sound = sound
 steps_sound P input limit (suc n) r sound = steps_sound P input limit n (serial_step P limit r) (step_sound P input limit r sound)
 
-end_sound : (P : Parts) (input : List ℕ) (limit : ℕ) (from r : Course) (s : Stop) → IsSound P input limit from → EndsAs P limit from r s → IsSound P input limit r
+end_sound : (P : TypedProgram) (input : List ℕ) (limit : ℕ) (from r : Course) (s : Stop) → IsSound P input limit from → EndsAs P limit from r s → IsSound P input limit r
 end_sound P input limit from r s sound run = subst (IsSound P input limit) run.reached (steps_sound P input limit run.steps from sound)
 
 pub keeps_sound : KeepsSound

@@ -4,16 +4,14 @@ use Rattle.std.specs.Prelude.{nat_lt, slice_get}
 use Rattle.std.specs.List.{AllByRecursion, list_all, list_any, range_with_len, flat_map}
 use Rattle.std.proofs.lemmas.Bool.{false≢true, and_parts, and_from}
 use Rattle.std.proofs.lemmas.List.Elements.{filter-append, recursion_from_All}
-use Rattle.std.proofs.lemmas.List.{length-map}
 use Rattle.std.proofs.lemmas.List.Concat.{flat_map-append}
 use Rattle.bc_data.specs.Guard.{guard_truth}
-use Rattle.bc_data.specs.Program.{Parts}
-use Rattle.bc_data.specs.declared.program.Param.{Param}
+use Rattle.bc_data.specs.Typed.{TypedProgram}
+use Rattle.bc_data.specs.Typed.{TypedParam}
 use Rattle.bc_data.specs.declared.run.Body.{Body}
-use Rattle.bc_data.specs.ProgramView.{view_program, view_program_param, view_task}
 use Rattle.bc_data.specs.Typed.{TypedProgram}
 use Rattle.bc_data.specs.WellTyped.{IsTask, IsWellTyped}
-use Rattle.bc_data.specs.declared.program.Task.{Task}
+use Rattle.bc_data.specs.Typed.{TypedTask}
 use Rattle.bc_data.specs.declared.run.Invocation.{Invocation}
 use Rattle.bc_mean.specs.declared.plain.Plain.{Plain}
 use Rattle.bc_mean.specs.Enabled.{is_some_and, is_class, carries, takes, take_all, are_different, is_enabled, tuples, invocations_of, all_enabled}
@@ -71,19 +69,19 @@ abbrev invocation : ℕ → List ℕ → List ℕ → Invocation
 invocation n objects instances = record { task = n; objects = objects; tags = instances }
 
 -- the enabled ones of one task
-of_task : (P : Parts) (S : Plain) (n : ℕ) (o : Option Task) → slice_get P.tasks n ≡ o → filter (is_enabled P S) (invocations_of S n o) ≡ enabled_of S n o
+of_task : (P : TypedProgram) (S : Plain) (n : ℕ) (o : Option TypedTask) → slice_get P.tasks n ≡ o → filter (is_enabled P S) (invocations_of S n o) ≡ enabled_of S n o
 of_task P S n None e = refl
 of_task P S n (Some t) e =
-    let instances = tuples (length S.tags) (length t.variables.items) in
-    filter_flat_map (is_enabled P S) (λ objects. map (invocation n objects) instances) (tuples (length S.bodies) (length t.params.items))
+    let instances = tuples (length S.tags) (length t.variables) in
+    filter_flat_map (is_enabled P S) (λ objects. map (invocation n objects) instances) (tuples (length S.bodies) (length t.params))
     ∙ flat_map_alike (λ objects. filter (is_enabled P S) (map (invocation n objects) instances)) (enabled_on t S n)
     (λ objects. filter_map_one (is_enabled P S) (invocation n objects) instances ∙ flat_map_alike (λ tags. if is_enabled P S (invocation n objects tags) then invocation n objects tags ∷ [] else []) (enabled_with t S n objects) (one objects) instances)
-    (tuples (length S.bodies) (length t.params.items))
+    (tuples (length S.bodies) (length t.params))
   where
     one : (objects tags : List ℕ) → (if is_enabled P S (invocation n objects tags) then invocation n objects tags ∷ [] else []) ≡ enabled_with t S n objects tags
-    one objects tags = ap (λ (o : Option Task). if is_some_and o (λ t. is_enabled_of t S objects tags) then invocation n objects tags ∷ [] else []) e
+    one objects tags = ap (λ (o : Option TypedTask). if is_some_and o (λ t. is_enabled_of t S objects tags) then invocation n objects tags ∷ [] else []) e
 
-pub all_by_task : (P : Parts) (S : Plain) → all_enabled P S ≡ flat_map (λ n. enabled_of S n (slice_get P.tasks n)) (range_with_len 0 (length P.tasks))
+pub all_by_task : (P : TypedProgram) (S : Plain) → all_enabled P S ≡ flat_map (λ n. enabled_of S n (slice_get P.tasks n)) (range_with_len 0 (length P.tasks))
 unfolding all_enabled
 all_by_task P S =
     filter_flat_map (is_enabled P S) (λ n. invocations_of S n (slice_get P.tasks n)) (range_with_len 0 (length P.tasks))
@@ -95,7 +93,7 @@ nothing f h [] = refl
 nothing f h (x ∷ xs) = ap₂ (λ ys zs. ys ++ zs) (h x) (nothing f h xs)
 
 -- an enabled invocation begins with objects that may begin one
-begins_all : (t : Task) (S : Plain) (instances : List ℕ) (ps : List Param) (front rest : List ℕ) → take_all S t instances ps (front ++ rest) ≡ true → may_stand_all S ps front ≡ true
+begins_all : (t : TypedTask) (S : Plain) (instances : List ℕ) (ps : List TypedParam) (front rest : List ℕ) → take_all S t instances ps (front ++ rest) ≡ true → may_stand_all S ps front ≡ true
 begins_all t S instances [] front rest h = refl
 begins_all t S instances (p ∷ ps) [] rest h = refl
 begins_all t S instances (p ∷ ps) (id ∷ ids) rest h =
@@ -103,10 +101,10 @@ begins_all t S instances (p ∷ ps) (id ∷ ids) rest h =
     and_from (may_stand S p id) (may_stand_all S ps ids) (stands (slice_get S.bodies id) q.0) (begins_all t S instances ps ids rest q.1)
   where
     stands : (o : Option Body) →
-        is_some_and o (λ b. is_class p.class b.kind && guard_truth p.guard b.flags && list_all (carries S t instances b) p.binds.items) ≡ true →
+        is_some_and o (λ b. is_class p.class b.kind && guard_truth p.guard b.flags && list_all (carries S t instances b) p.binds) ≡ true →
         is_some_and o (λ b. is_class p.class b.kind && guard_truth p.guard b.flags) ≡ true
     stands None h = h
-    stands (Some b) h = (and_parts (is_class p.class b.kind && guard_truth p.guard b.flags) (list_all (carries S t instances b) p.binds.items) h).0
+    stands (Some b) h = (and_parts (is_class p.class b.kind && guard_truth p.guard b.flags) (list_all (carries S t instances b) p.binds) h).0
 
 neither : (a b : Bool) → (a || b) ≡ false → (a ≡ false) × (b ≡ false)
 neither true b h = absurd (false≢true (sym h))
@@ -130,20 +128,20 @@ different_left (id ∷ ids) rest h =
     (ap not (none_left (λ other. other == id) ids rest (not_true (list_any (λ other. other == id) (ids ++ rest)) q.0)))
     (different_left ids rest q.1)
 
-begins : (t : Task) (S : Plain) (front rest instances : List ℕ) → is_enabled_of t S (front ++ rest) instances ≡ true → may_begin t S front ≡ true
+begins : (t : TypedTask) (S : Plain) (front rest instances : List ℕ) → is_enabled_of t S (front ++ rest) instances ≡ true → may_begin t S front ≡ true
 begins t S front rest instances h =
-    let long = length instances == length t.variables.items in
-    let fits = take_all S t instances t.params.items (front ++ rest) in
+    let long = length instances == length t.variables in
+    let fits = take_all S t instances t.params (front ++ rest) in
     let different = are_different (front ++ rest) in
     let q = and_parts (long && fits && different) (list_all (λ n. nat_lt n (length S.tags)) instances) h in
     let r = and_parts (long && fits) different q.0 in
     let s = and_parts long fits r.0 in
-    and_from (may_stand_all S t.params.items front) (are_different front) (begins_all t S instances t.params.items front rest s.1) (different_left front rest r.1)
+    and_from (may_stand_all S t.params front) (are_different front) (begins_all t S instances t.params front rest s.1) (different_left front rest r.1)
 
 -- behind objects that may not begin one stands none
-pub behind_nothing : (t : Task) (S : Plain) (number n : ℕ) (front : List ℕ) (left : ℕ) → may_begin t S front ≡ false → listed_behind (enabled_on t S number) n front left ≡ []
+pub behind_nothing : (t : TypedTask) (S : Plain) (number n : ℕ) (front : List ℕ) (left : ℕ) → may_begin t S front ≡ false → listed_behind (enabled_on t S number) n front left ≡ []
 behind_nothing t S number n front left h =
-    nothing (λ rest. enabled_on t S number (front ++ rest)) (λ rest. nothing (λ instances. enabled_with t S number (front ++ rest) instances) (λ instances. one rest instances (is_enabled_of t S (front ++ rest) instances) refl) (tuples (length S.tags) (length t.variables.items))) (tuples n left)
+    nothing (λ rest. enabled_on t S number (front ++ rest)) (λ rest. nothing (λ instances. enabled_with t S number (front ++ rest) instances) (λ instances. one rest instances (is_enabled_of t S (front ++ rest) instances) refl) (tuples (length S.tags) (length t.variables))) (tuples n left)
   where
     one : (rest instances : List ℕ) (b : Bool) → is_enabled_of t S (front ++ rest) instances ≡ b → (if b then invocation number (front ++ rest) instances ∷ [] else []) ≡ []
     one rest instances true e = absurd (false≢true (sym h ∙ begins t S front rest instances e))
@@ -170,18 +168,18 @@ behind_all list n front (suc k) i before found some e h =
     (ap₂ (λ j m. flat_map (λ x. listed_behind list n (front ++ x ∷ []) j) (range_with_len 0 m)) less e ∙ sym (behind_one list n front k))
 
 -- an accepted task has at most four parameters and four tag variables
-abbrev few : Option Task → Type 0
+abbrev few : Option TypedTask → Type 0
 few None = Unit {0}
-few (Some t) = (length t.params.items ≤ 4) × (length t.variables.items ≤ 4)
+few (Some t) = (length t.params ≤ 4) × (length t.variables ≤ 4)
 
-few_in : (P : TypedProgram) (ts : List Task) (i : ℕ) → AllByRecursion (IsTask P) (map view_task ts) → few (slice_get ts i)
+few_in : (P : TypedProgram) (ts : List TypedTask) (i : ℕ) → AllByRecursion (IsTask P) ts → few (slice_get ts i)
 few_in P [] i h = tt
 few_in P (t ∷ ts) zero h =
-    let p : length t.params.items ≡ length (map view_program_param t.params.items) = sym (length-map t.params.items view_program_param) in
-    let few_params : length (map view_program_param t.params.items) ≤ 4 = h.0.few_params in
-    let few_variables : length t.variables.items ≤ 4 = h.0.few_variables in
+    let p : length t.params ≡ length t.params = refl in
+    let few_params : length (t.params) ≤ 4 = h.0.few_params in
+    let few_variables : length t.variables ≤ 4 = h.0.few_variables in
     (omega arith, few_variables)
 few_in P (t ∷ ts) (suc i) h = few_in P ts i h.1
 
-pub few_parts : (P : Parts) (i : ℕ) (t : Task) → IsWellTyped (view_program P) → Some t ≡ slice_get P.tasks i → (length t.params.items ≤ 4) × (length t.variables.items ≤ 4)
-few_parts P i t h e = subst few (sym e) (few_in (view_program P) P.tasks i (recursion_from_All (IsTask (view_program P)) (map view_task P.tasks) h.tasks))
+pub few_parts : (P : TypedProgram) (i : ℕ) (t : TypedTask) → IsWellTyped P → Some t ≡ slice_get P.tasks i → (length t.params ≤ 4) × (length t.variables ≤ 4)
+few_parts P i t h e = subst few (sym e) (few_in P P.tasks i (recursion_from_All (IsTask P) (P.tasks) h.tasks))

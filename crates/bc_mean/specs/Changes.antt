@@ -2,6 +2,7 @@
 use Rattle.std.specs.Prelude.{ℕ, ◌+◌, Bool, true, false, not, if◌then◌else◌, ◌&&◌, ◌==◌, nat_lt, List, [], ◌∷◌, ◌++◌, length, map, filter, slice_get, slice_set, Option, Some, None}
 use Rattle.std.specs.List.{range_with_len, filter_map}
 use Rattle.std.specs.Cmp.Lexicographic.{pointwise}
+use Rattle.bc_data.specs.Limits.{most_cells, most_instances, most_objects, most_output}
 use Rattle.bc_data.specs.declared.run.Value.{Value}
 use Rattle.bc_data.specs.declared.run.Value.TheVariants as value
 use Rattle.bc_data.specs.declared.run.TagRef.{TagRef}
@@ -81,8 +82,8 @@ changed_objects S T = filter (λ id. differs (slice_get S.bodies id) (slice_get 
 -- the first sum that would pass its limit
 abbrev pub fault_of_room : Plain → Changes → Option FaultKind
 fault_of_room S c =
-    if nat_lt 65536 (length S.bodies + length c.made) then Some fault.Objects
-    else if nat_lt 4194304 (cells_in S.bodies + cells_in c.made) then Some fault.Cells
-    else if nat_lt 65536 (length S.tags + length c.tags) then Some fault.Tags
-    else if nat_lt 16777216 (length S.output + length c.text) then Some fault.Output
+    if nat_lt most_objects (length S.bodies + length c.made) then Some fault.Objects
+    else if nat_lt most_cells (cells_in S.bodies + cells_in c.made) then Some fault.Cells
+    else if nat_lt most_instances (length S.tags + length c.tags) then Some fault.Tags
+    else if nat_lt most_output (length S.output + length c.text) then Some fault.Output
     else None

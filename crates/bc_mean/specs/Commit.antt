@@ -1,5 +1,6 @@
 -- When changes can be applied to a store, and the steps of that.
 use Rattle.std.specs.Prelude.{ℕ, ◌+◌, ◌<◌, ◌≤◌, List, [], ◌∷◌, length, slice_set, All}
+use Rattle.bc_data.specs.Limits.{most_instances, most_objects}
 use Rattle.bc_data.specs.declared.run.Value.{Value}
 use Rattle.bc_data.specs.declared.run.Value.TheVariants as value
 use Rattle.bc_data.specs.declared.run.TagRef.{TagRef}
@@ -30,8 +31,8 @@ pub record IsMadeBody (c : Changes) (b : Body) : Type 0 where
 -- The changes come of a run in the store that had room: the objects that they change are there, the new ones that they
 -- name are made, and the numbers of objects and instances fit.
 pub record HasRoom (S : Plain) (c : Changes) : Type 0 where
-  pub objects : length S.bodies + length c.made ≤ 65536
-  pub instances : length S.tags + length c.tags ≤ 65536
+  pub objects : length S.bodies + length c.made ≤ most_objects
+  pub instances : length S.tags + length c.tags ≤ most_instances
   pub present : All (λ w. w.id < length S.bodies) c.bodies
   pub changed : All (λ w. IsMadeBody c w.body) c.bodies
   pub made : All (IsMadeBody c) c.made

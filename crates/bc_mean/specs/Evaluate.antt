@@ -1,6 +1,7 @@
 -- What expressions come to. Operands are evaluated from left to right.
 use Rattle.std.specs.Prelude.{ℕ, ℤ, pos, negsuc, neg_ℤ, true, false, not, if◌then◌else◌, nat_le, List, [], ◌∷◌, ◌++◌, length, map, replicate, slice_get, option_and_then, Option, Some, None}
 use Rattle.std.specs.Int.{w32, int_wrap}
+use Rattle.bc_data.specs.Limits.{longest_array}
 use Rattle.bc_data.specs.declared.program.Field.{Field}
 use Rattle.bc_data.specs.declared.program.Op.{Op}
 use Rattle.bc_data.specs.declared.program.Op.TheVariants as op
@@ -102,7 +103,7 @@ construct C at (Some m) n xs w = and_then (C at m (value.New n ∷ xs) w) (λ _ 
 -- A new array has 0 to 65,536 elements.
 abbrev pub make_array : Place → Kind → Value → Work → Got Value
 make_array at k (value.Int (pos n)) w =
-    if nat_le n 65536 then and_then (make at (zero_array k n) w) (λ i v. Gives (value.New i) v) else faults fault.Size at w
+    if nat_le n longest_array then and_then (make at (zero_array k n) w) (λ i v. Gives (value.New i) v) else faults fault.Size at w
 make_array at k (value.Int (negsuc n)) w = faults fault.Size at w
 make_array at k _ w = Stops Wrong w
 

@@ -1,18 +1,7 @@
 -- Worked examples of the meaning: small programs with their whole runs, and the edges of its limits.
-use Rattle.std.specs.Prelude.{◌≡◌, ℕ, ◌+◌, ◌<◌, ◌≤◌, ◌^◌, false, true, List, [], ◌∷◌, ◌++◌, length, All, None, Some, codes}
-use Rattle.std.specs.Global.{Vec, Global}
-use Rattle.std.proofs.Common.{refl, lit<, le_refl}
-use denote.RawPtr.{null_ptr}
-use Rattle.bc_data.specs.Program.{Parts}
-use Rattle.bc_data.specs.declared.program.Class.{Class}
-use Rattle.bc_data.specs.declared.program.Task.{Task}
-use Rattle.bc_data.specs.declared.program.Param.{Param}
-use Rattle.bc_data.specs.declared.program.Shape.TheVariants as shape
-use Rattle.bc_data.specs.declared.program.FlagExpr.{FlagExpr}
-use Rattle.bc_data.specs.declared.program.FlagExpr as flag
-use Rattle.bc_data.specs.declared.program.Stat.{Stat}
-use Rattle.bc_data.specs.declared.program.Stat as stat
-use Rattle.bc_data.specs.declared.program.Part.TheVariants as part
+use Rattle.std.specs.Prelude.{◌≡◌, ℕ, ◌+◌, ◌<◌, ◌≤◌, false, true, List, [], ◌∷◌, ◌++◌, length, All, None, Some, codes}
+use Rattle.bc_data.specs.Startup.{startup_class}
+use Rattle.bc_data.specs.Typed.{TypedClass, TypedGuard, FlagIs, FlagNot, TypedParam, TypedProgram, TypedStatement, Exit, Print, TypedStatements, Nothing, Then, TextPart, TypedTask}
 use Rattle.bc_data.specs.declared.program.Change.TheVariants as change
 use Rattle.bc_data.specs.declared.run.Place.{Place}
 use Rattle.bc_data.specs.declared.run.Value.TheVariants as value
@@ -36,90 +25,64 @@ use Rattle.bc_mean.specs.Changes.{apply_changes, changed_objects, fault_of_room,
 use Rattle.bc_mean.specs.Outcome.{outcome}
 use Rattle.bc_mean.specs.Serial.{Course, Failed, IsQuiet, IsSerialRun, committed, pending_after, replay, serial_step}
 
--- a vector of these elements
-abbrev pub vec_of : {X : Type 0} → Global → (xs : List X) → length xs < 2 ^ 63 → Vec X
-vec_of alloc xs short = record {
-  ptr = null_ptr;
-  len = length xs;
-  cap = length xs;
-  alloc = alloc;
-  items = xs;
-  ok = (refl, le_refl (length xs));
-  small = short;
-}
-
--- The class that every program has: `StartupObject` with the flag `initialstate` and the field `input`.
-abbrev pub startup_class : Global → Class
-startup_class alloc = record {
-  name = codes "StartupObject";
-  flags = vec_of alloc (codes "initialstate" ∷ []) (lit< tt);
-  fields = vec_of alloc (record { name = codes "input"; shape = shape.Ints } ∷ []) (lit< tt);
-  maker = None;
-  methods = vec_of alloc [] (lit< tt);
-}
+-- statements, one after the other
+abbrev pub body_of : List TypedStatement → TypedStatements → TypedStatements
+body_of [] front = front
+body_of (s ∷ ss) front = body_of ss (Then front s)
 
 -- a class with one flag and no fields
-abbrev pub flagged_class : Global → List ℕ → Class
-flagged_class alloc name = record {
-  name = name;
-  flags = vec_of alloc (codes "f" ∷ []) (lit< tt);
-  fields = vec_of alloc [] (lit< tt);
-  maker = None;
-  methods = vec_of alloc [] (lit< tt);
-}
+abbrev pub flagged_class : List ℕ → TypedClass
+flagged_class name = record { name = name; flags = codes "f" ∷ []; fields = []; maker = None; methods = [] }
 
 -- a parameter of a class under a guard, which binds no tag variable
-abbrev pub param : Global → ℕ → FlagExpr → Param
-param alloc c g = record { class = c; guard = g; binds = vec_of alloc [] (lit< tt) }
+abbrev pub param : ℕ → TypedGuard → TypedParam
+param c g = record { class = c; guard = g; binds = [] }
 
 abbrev pub here : Place
 here = record { line = 1; column = 1 }
 
 -- a task of the startup object under a guard
-abbrev pub guarded_task : Global → List ℕ → FlagExpr → (body : List Stat) → length body < 2 ^ 63 → Task
-guarded_task alloc name g body short = record {
+abbrev pub guarded_task : List ℕ → TypedGuard → List TypedStatement → TypedTask
+guarded_task name g body = record {
   name = name;
   at = here;
-  params = vec_of alloc (param alloc 0 g ∷ []) (lit< tt);
-  variables = vec_of alloc [] (lit< tt);
+  params = param 0 g ∷ [];
+  variables = [];
   locals = 1;
   tags = 0;
-  body = vec_of alloc body short;
+  body = body_of body Nothing;
 }
 
 -- a task of the startup object while `initialstate` is set
-abbrev pub startup_task : Global → List ℕ → (body : List Stat) → length body < 2 ^ 63 → Task
-startup_task alloc name body short = guarded_task alloc name (flag.Flag 0) body short
-
-abbrev pub not_flag : Global → ℕ → FlagExpr
-not_flag alloc f = flag.Not' (record { ptr = null_ptr; alloc = alloc; value = tt }) (flag.Flag f)
+abbrev pub startup_task : List ℕ → List TypedStatement → TypedTask
+startup_task name body = guarded_task name (FlagIs 0) body
 
 -- `print` of one text, or of two
-abbrev pub print : Global → List ℕ → Stat
-print alloc text = stat.Print here (vec_of alloc (part.Text text ∷ []) (lit< tt))
+abbrev pub print : List ℕ → TypedStatement
+print text = Print here (TextPart text ∷ [])
 
-abbrev pub print_two : Global → Place → List ℕ → List ℕ → Stat
-print_two alloc at first second = stat.Print at (vec_of alloc (part.Text first ∷ part.Text second ∷ []) (lit< tt))
+abbrev pub print_two : Place → List ℕ → List ℕ → TypedStatement
+print_two at first second = Print at (TextPart first ∷ TextPart second ∷ [])
 
-abbrev pub set_flag : Global → Stat
-set_flag alloc = stat.Exit (vec_of alloc (change.Flag 0 0 true ∷ []) (lit< tt))
+abbrev pub set_flag : TypedStatement
+set_flag = Exit (change.Flag 0 0 true ∷ [])
 
-abbrev pub clear_flag : Global → Stat
-clear_flag alloc = stat.Exit (vec_of alloc (change.Flag 0 0 false ∷ []) (lit< tt))
+abbrev pub clear_flag : TypedStatement
+clear_flag = Exit (change.Flag 0 0 false ∷ [])
 
-abbrev pub clear_then_set_flag : Global → Stat
-clear_then_set_flag alloc = stat.Exit (vec_of alloc (change.Flag 0 0 false ∷ change.Flag 0 0 true ∷ []) (lit< tt))
+abbrev pub clear_then_set_flag : TypedStatement
+clear_then_set_flag = Exit (change.Flag 0 0 false ∷ change.Flag 0 0 true ∷ [])
 
 -- a program of these tasks, with no class of its own
-abbrev pub program : Global → List Task → Parts
-program alloc tasks = record { classes = startup_class alloc ∷ []; tag_types = []; tasks = tasks }
+abbrev pub program : List TypedTask → TypedProgram
+program tasks = record { classes = startup_class ∷ []; tag_types = []; tasks = tasks }
 
 -- a task's invocation on the startup object
 abbrev pub on_startup : ℕ → Invocation
 on_startup n = record { task = n; objects = 0 ∷ []; tags = [] }
 
 -- On the empty input the serial run has this stop, history and output. The history's replay is the store that it leaves.
-pub record RunsSo (P : Parts) (limit : ℕ) (s : Stop) (history : List Invocation) (text : List ℕ) : Type 0 where
+pub record RunsSo (P : TypedProgram) (limit : ℕ) (s : Stop) (history : List Invocation) (text : List ℕ) : Type 0 where
   pub course : Course
   pub run : IsSerialRun P [] limit course s
   pub history_is : course.history ≡ history
@@ -128,37 +91,37 @@ pub record RunsSo (P : Parts) (limit : ℕ) (s : Stop) (history : List Invocatio
   pub replayed : replay P [] history ≡ Some course.store
 
 -- a program that greets and ends
-abbrev pub hello : Global → Parts
-hello alloc = program alloc (startup_task alloc (codes "startup") (print alloc (codes "hello\n") ∷ clear_flag alloc ∷ []) (lit< tt) ∷ [])
+abbrev pub hello : TypedProgram
+hello = program (startup_task (codes "startup") (print (codes "hello\n") ∷ clear_flag ∷ []) ∷ [])
 
-abbrev pub empty_program : Global → Parts
-empty_program alloc = program alloc []
+abbrev pub empty_program : TypedProgram
+empty_program = program []
 
 -- a task that stays enabled
-abbrev pub again : Global → Parts
-again alloc = program alloc (startup_task alloc (codes "again") (print alloc (codes "x") ∷ []) (lit< tt) ∷ [])
+abbrev pub again : TypedProgram
+again = program (startup_task (codes "again") (print (codes "x") ∷ []) ∷ [])
 
 -- two tasks that stay enabled
-abbrev pub two_tasks : Global → Parts
-two_tasks alloc =
-    program alloc
+abbrev pub two_tasks : TypedProgram
+two_tasks =
+    program
     (
-    startup_task alloc (codes "a") (print alloc (codes "a") ∷ []) (lit< tt)
-    ∷ startup_task alloc (codes "b") (print alloc (codes "b") ∷ []) (lit< tt)
+    startup_task (codes "a") (print (codes "a") ∷ [])
+    ∷ startup_task (codes "b") (print (codes "b") ∷ [])
     ∷ []
     )
 
 -- Whole runs. Tasks that stay enabled take turns.
-pub record RunExamples (alloc : Global) : Type 0 where
-  pub hello_ends : RunsSo (hello alloc) 100 stop.End (on_startup 0 ∷ []) (codes "hello\n")
-  pub hello_is_quiet : IsQuiet (hello alloc) hello_ends.course.store
-  pub empty_ends : RunsSo (empty_program alloc) 1 stop.End [] []
-  pub again_is_spent : RunsSo (again alloc) 3 (stop.Spent (on_startup 0)) (on_startup 0 ∷ on_startup 0 ∷ on_startup 0 ∷ []) (codes "xxx")
-  pub turns : RunsSo (two_tasks alloc) 3 (stop.Spent (on_startup 1)) (on_startup 0 ∷ on_startup 1 ∷ on_startup 0 ∷ []) (codes "aba")
+pub record RunExamples : Type 0 where
+  pub hello_ends : RunsSo hello 100 stop.End (on_startup 0 ∷ []) (codes "hello\n")
+  pub hello_is_quiet : IsQuiet hello hello_ends.course.store
+  pub empty_ends : RunsSo empty_program 1 stop.End [] []
+  pub again_is_spent : RunsSo again 3 (stop.Spent (on_startup 0)) (on_startup 0 ∷ on_startup 0 ∷ on_startup 0 ∷ []) (codes "xxx")
+  pub turns : RunsSo two_tasks 3 (stop.Spent (on_startup 1)) (on_startup 0 ∷ on_startup 1 ∷ on_startup 0 ∷ []) (codes "aba")
 
 -- a task that wants the flag cleared
-abbrev pub wants_cleared : Global → Parts
-wants_cleared alloc = program alloc (guarded_task alloc (codes "t") (not_flag alloc 0) [] (lit< tt) ∷ [])
+abbrev pub wants_cleared : TypedProgram
+wants_cleared = program (guarded_task (codes "t") (FlagNot (FlagIs 0)) [] ∷ [])
 
 abbrev pub cleared_startup : Body
 cleared_startup = record startup_object { flags = 0 }
@@ -171,23 +134,23 @@ abbrev pub flagged : ℕ → List TagRef → Body
 flagged c tags = record { kind = kind.Class c; cells = []; flags = 1; tags = tags }
 
 -- a parameter that binds these tag variables
-abbrev pub tagged_param : Global → ℕ → (binds : List ℕ) → length binds < 2 ^ 63 → Param
-tagged_param alloc c binds short = record { class = c; guard = flag.Flag 0; binds = vec_of alloc binds short }
+abbrev pub tagged_param : ℕ → List ℕ → TypedParam
+tagged_param c binds = record { class = c; guard = FlagIs 0; binds = binds }
 
 -- a program with the classes 1 and 2, the tag types 0 and 1, and one task
-abbrev pub tagged_program : Global → (params : List Param) → length params < 2 ^ 63 → (variables : List ℕ) → length variables < 2 ^ 63 → Parts
-tagged_program alloc params few variables short = record {
-  classes = startup_class alloc ∷ flagged_class alloc (codes "L") ∷ flagged_class alloc (codes "R") ∷ [];
+abbrev pub tagged_program : List TypedParam → List ℕ → TypedProgram
+tagged_program params variables = record {
+  classes = startup_class ∷ flagged_class (codes "L") ∷ flagged_class (codes "R") ∷ [];
   tag_types = codes "T" ∷ codes "U" ∷ [];
   tasks =
       record {
         name = codes "t";
         at = here;
-        params = vec_of alloc params few;
-        variables = vec_of alloc variables short;
+        params = params;
+        variables = variables;
         locals = length params;
         tags = length variables;
-        body = vec_of alloc [] (lit< tt);
+        body = Nothing;
       }
       ∷ [];
 }
@@ -196,41 +159,41 @@ abbrev pub task_on : List ℕ → List ℕ → Invocation
 task_on objects tags = record { task = 0; objects = objects; tags = tags }
 
 -- two parameters of two classes that ask for one instance
-abbrev pub joins : Global → Parts
-joins alloc = tagged_program alloc (tagged_param alloc 1 (0 ∷ []) (lit< tt) ∷ tagged_param alloc 2 (0 ∷ []) (lit< tt) ∷ []) (lit< tt) (0 ∷ []) (lit< tt)
+abbrev pub joins : TypedProgram
+joins = tagged_program (tagged_param 1 (0 ∷ []) ∷ tagged_param 2 (0 ∷ []) ∷ []) (0 ∷ [])
 
 -- Objects 2 and 3 have instance 0, and 4 and 5 have instance 1, both of the task's type.
 abbrev pub two_joined : Plain
 two_joined = store_of (flagged 1 (tag.Old 0 ∷ []) ∷ flagged 2 (tag.Old 0 ∷ []) ∷ flagged 1 (tag.Old 1 ∷ []) ∷ flagged 2 (tag.Old 1 ∷ []) ∷ []) (0 ∷ 0 ∷ [])
 
 -- two parameters of one class
-abbrev pub pairs : Global → Parts
-pairs alloc = tagged_program alloc (tagged_param alloc 1 [] (lit< tt) ∷ tagged_param alloc 1 [] (lit< tt) ∷ []) (lit< tt) [] (lit< tt)
+abbrev pub pairs : TypedProgram
+pairs = tagged_program (tagged_param 1 [] ∷ tagged_param 1 [] ∷ []) []
 
 abbrev pub two_alike : Plain
 two_alike = store_of (flagged 1 [] ∷ flagged 1 [] ∷ []) []
 
 -- one parameter with two variables of one type
-abbrev pub two_variables : Global → Parts
-two_variables alloc = tagged_program alloc (tagged_param alloc 1 (0 ∷ 1 ∷ []) (lit< tt) ∷ []) (lit< tt) (0 ∷ 0 ∷ []) (lit< tt)
+abbrev pub two_variables : TypedProgram
+two_variables = tagged_program (tagged_param 1 (0 ∷ 1 ∷ []) ∷ []) (0 ∷ 0 ∷ [])
 
 -- a variable that no parameter binds
-abbrev pub unbound_variable : Global → Parts
-unbound_variable alloc = tagged_program alloc (tagged_param alloc 1 [] (lit< tt) ∷ []) (lit< tt) (0 ∷ []) (lit< tt)
+abbrev pub unbound_variable : TypedProgram
+unbound_variable = tagged_program (tagged_param 1 [] ∷ []) (0 ∷ [])
 
 -- Enabled are the tuples of different objects whose flags meet the guards and that share the instances, ascending.
-pub record EnabledExamples (alloc : Global) : Type 0 where
-  pub negated_guard : all_enabled (wants_cleared alloc) (start_store []) ≡ []
-  pub negated_guard_holds : all_enabled (wants_cleared alloc) (store_of [] []) ≡ on_startup 0 ∷ []
-  pub flag_cleared : all_enabled (hello alloc) (store_of [] []) ≡ []
-  pub joined : all_enabled (joins alloc) two_joined ≡ task_on (2 ∷ 3 ∷ []) (0 ∷ []) ∷ task_on (4 ∷ 5 ∷ []) (1 ∷ []) ∷ []
-  pub wrong_type : all_enabled (joins alloc) (record two_joined { tags = 1 ∷ 1 ∷ [] }) ≡ []
-  pub both_orders : all_enabled (pairs alloc) two_alike ≡ task_on (2 ∷ 3 ∷ []) [] ∷ task_on (3 ∷ 2 ∷ []) [] ∷ []
-  pub not_itself : is_enabled (pairs alloc) two_alike (task_on (2 ∷ 2 ∷ []) []) ≡ false
-  pub instance_not_there : is_enabled (unbound_variable alloc) (store_of (flagged 1 [] ∷ []) []) (task_on (2 ∷ []) (0 ∷ [])) ≡ false
-  pub one_instance_twice : all_enabled (two_variables alloc) (store_of (flagged 1 (tag.Old 0 ∷ []) ∷ []) (0 ∷ [])) ≡ task_on (2 ∷ []) (0 ∷ 0 ∷ []) ∷ []
+pub record EnabledExamples : Type 0 where
+  pub negated_guard : all_enabled wants_cleared (start_store []) ≡ []
+  pub negated_guard_holds : all_enabled wants_cleared (store_of [] []) ≡ on_startup 0 ∷ []
+  pub flag_cleared : all_enabled hello (store_of [] []) ≡ []
+  pub joined : all_enabled joins two_joined ≡ task_on (2 ∷ 3 ∷ []) (0 ∷ []) ∷ task_on (4 ∷ 5 ∷ []) (1 ∷ []) ∷ []
+  pub wrong_type : all_enabled joins (record two_joined { tags = 1 ∷ 1 ∷ [] }) ≡ []
+  pub both_orders : all_enabled pairs two_alike ≡ task_on (2 ∷ 3 ∷ []) [] ∷ task_on (3 ∷ 2 ∷ []) [] ∷ []
+  pub not_itself : is_enabled pairs two_alike (task_on (2 ∷ 2 ∷ []) []) ≡ false
+  pub instance_not_there : is_enabled unbound_variable (store_of (flagged 1 [] ∷ []) []) (task_on (2 ∷ []) (0 ∷ [])) ≡ false
+  pub one_instance_twice : all_enabled two_variables (store_of (flagged 1 (tag.Old 0 ∷ []) ∷ []) (0 ∷ [])) ≡ task_on (2 ∷ []) (0 ∷ 0 ∷ []) ∷ []
   pub two_instances :
-      all_enabled (two_variables alloc) (store_of (flagged 1 (tag.Old 0 ∷ tag.Old 1 ∷ []) ∷ []) (0 ∷ 0 ∷ []))
+      all_enabled two_variables (store_of (flagged 1 (tag.Old 0 ∷ tag.Old 1 ∷ []) ∷ []) (0 ∷ 0 ∷ []))
       ≡ task_on (2 ∷ []) (0 ∷ 0 ∷ []) ∷ task_on (2 ∷ []) (0 ∷ 1 ∷ []) ∷ task_on (2 ∷ []) (1 ∷ 0 ∷ []) ∷ task_on (2 ∷ []) (1 ∷ 1 ∷ []) ∷ []
 
 -- Room ends exactly at each limit, and the first sum past its limit is the fault.
@@ -264,25 +227,25 @@ abbrev pub faulted : FaultKind → Place → Outcome
 faulted k at = record { ran = ran.Faulted (record { kind = k; at = at }); touched = 0 ∷ [] }
 
 -- a task of one statement
-abbrev pub does : Global → Stat → Parts
-does alloc s = program alloc (startup_task alloc (codes "t") (s ∷ []) (lit< tt) ∷ [])
+abbrev pub does : TypedStatement → TypedProgram
+does s = program (startup_task (codes "t") (s ∷ []) ∷ [])
 
 -- what the task of one statement comes to at the start of the run on the empty input
-abbrev pub does_at_start : Global → Stat → Outcome
-does_at_start alloc s = outcome (does alloc s) (start_store []) (on_startup 0)
+abbrev pub does_at_start : TypedStatement → Outcome
+does_at_start s = outcome (does s) (start_store []) (on_startup 0)
 
 -- The text of an invocation has its limit, and the fault is at the `print` that would pass it.
-pub record TextExamples (alloc : Global) (at : Place) (first second : List ℕ) : Type 0 where
-  pub full : length first + length second ≡ 65536 → does_at_start alloc (print_two alloc at first second) ≡ commits [] (first ++ second)
+pub record TextExamples (at : Place) (first second : List ℕ) : Type 0 where
+  pub full : length first + length second ≡ 65536 → does_at_start (print_two at first second) ≡ commits [] (first ++ second)
   pub too_long :
-      length first ≤ 65536 → length first + length second ≡ 65537 → does_at_start alloc (print_two alloc at first second) ≡ faulted fault.Text at
-  pub first_too_long : length first ≡ 65537 → does_at_start alloc (print_two alloc at first second) ≡ faulted fault.Text at
+      length first ≤ 65536 → length first + length second ≡ 65537 → does_at_start (print_two at first second) ≡ faulted fault.Text at
+  pub first_too_long : length first ≡ 65537 → does_at_start (print_two at first second) ≡ faulted fault.Text at
 
 -- A flag that is set again, or cleared and set, is no change.
-pub record ExitExamples (alloc : Global) : Type 0 where
-  pub sets_a_set_flag : does_at_start alloc (set_flag alloc) ≡ commits [] []
-  pub clears_and_sets : does_at_start alloc (clear_then_set_flag alloc) ≡ commits [] []
-  pub clears : does_at_start alloc (clear_flag alloc) ≡ commits (record { id = 0; body = cleared_startup } ∷ []) []
+pub record ExitExamples : Type 0 where
+  pub sets_a_set_flag : does_at_start set_flag ≡ commits [] []
+  pub clears_and_sets : does_at_start clear_then_set_flag ≡ commits [] []
+  pub clears : does_at_start clear_flag ≡ commits (record { id = 0; body = cleared_startup } ∷ []) []
 
 abbrev pub with_output : List ℕ → Plain
 with_output output = record (start_store []) { output = output }
@@ -298,16 +261,16 @@ course_before history output = record {
 }
 
 -- Room comes before the limit of commits: a run without room is a failure at the task, even where no commit is left.
-pub record OutputExamples (alloc : Global) (output text : List ℕ) (history : List Invocation) : Type 0 where
+pub record OutputExamples (output text : List ℕ) (history : List Invocation) : Type 0 where
   pub no_room :
       length text ≤ 65536
       → length output + length text ≡ 16777217
-      → outcome (does alloc (print alloc text)) (with_output output) (on_startup 0) ≡ faulted fault.Output here
+      → outcome (does (print text)) (with_output output) (on_startup 0) ≡ faulted fault.Output here
   pub before_the_limit :
       length text ≤ 65536
       → length output + length text ≡ 16777217
       → length history ≡ 256
-      → serial_step (does alloc (print alloc text)) 256 (course_before history output)
+      → serial_step (does (print text)) 256 (course_before history output)
       ≡ record (course_before history output) {
         pending = [];
         failures = record { v = on_startup 0; fault = record { kind = fault.Output; at = here }; touched = 0 ∷ [] } ∷ [];
@@ -337,14 +300,14 @@ course_with_failures = record {
 }
 
 -- Pending invocations keep their order before the others. Running and failed ones are not pending.
-pub record PendingExamples (alloc : Global) : Type 0 where
-  pub ascending : pending_after (pairs alloc) two_alike [] [] [] ≡ pair ∷ other_pair ∷ []
-  pub kept_first : pending_after (pairs alloc) two_alike [] [] (other_pair ∷ []) ≡ other_pair ∷ pair ∷ []
-  pub not_running : pending_after (pairs alloc) two_alike [] (pair ∷ []) [] ≡ other_pair ∷ []
-  pub not_failed : pending_after (pairs alloc) two_alike (failure pair (2 ∷ []) ∷ []) [] [] ≡ other_pair ∷ []
-  pub no_longer_enabled : pending_after (pairs alloc) one_cleared [] [] (other_pair ∷ pair ∷ []) ≡ []
+pub record PendingExamples : Type 0 where
+  pub ascending : pending_after pairs two_alike [] [] [] ≡ pair ∷ other_pair ∷ []
+  pub kept_first : pending_after pairs two_alike [] [] (other_pair ∷ []) ≡ other_pair ∷ pair ∷ []
+  pub not_running : pending_after pairs two_alike [] (pair ∷ []) [] ≡ other_pair ∷ []
+  pub not_failed : pending_after pairs two_alike (failure pair (2 ∷ []) ∷ []) [] [] ≡ other_pair ∷ []
+  pub no_longer_enabled : pending_after pairs one_cleared [] [] (other_pair ∷ pair ∷ []) ≡ []
   pub one_failure_dropped :
-      (committed (pairs alloc) one_cleared pair [] course_with_failures).failures ≡ failure other_pair (3 ∷ []) ∷ []
+      (committed pairs one_cleared pair [] course_with_failures).failures ≡ failure other_pair (3 ∷ []) ∷ []
 
 -- two new objects that name each other, one with a new tag instance, and the startup object that names one of them
 abbrev pub linked : Changes
@@ -382,24 +345,24 @@ with_object b = store_of (b ∷ []) (0 ∷ [])
 
 -- The store at the start fits each program. An object with a flag or an instance too many, or one instance
 -- twice, does not, and an array of a number that has no 32 bits does not.
-pub record FitExamples (alloc : Global) : Type 0 where
-  pub start : (tasks : List Task) (input : List ℕ) → All (λ b. b < 256) input → length input ≤ 65536 → Fits (program alloc tasks) (start_store input)
-  pub tagged : Fits (joins alloc) (with_object (flagged 1 (tag.Old 0 ∷ [])))
-  pub unknown_flag : Fits (joins alloc) (with_object (record { kind = kind.Class 1; cells = []; flags = 2; tags = [] })) → ⊥
-  pub unknown_instance : Fits (joins alloc) (with_object (flagged 1 (tag.Old 1 ∷ []))) → ⊥
-  pub one_instance_twice : Fits (joins alloc) (with_object (flagged 1 (tag.Old 0 ∷ tag.Old 0 ∷ []))) → ⊥
-  pub unknown_class : Fits (joins alloc) (with_object (flagged 3 [])) → ⊥
-  pub cell_too_many : Fits (joins alloc) (with_object (record { kind = kind.Class 1; cells = value.Null ∷ []; flags = 1; tags = [] })) → ⊥
-  pub int_too_large : Fits (joins alloc) (with_object (input_array (2147483648 ∷ []))) → ⊥
-  pub wrong_element : Fits (joins alloc) (with_object (record { kind = kind.Objects 1; cells = value.Old 1 ∷ []; flags = 0; tags = [] })) → ⊥
+pub record FitExamples : Type 0 where
+  pub start : (tasks : List TypedTask) (input : List ℕ) → All (λ b. b < 256) input → length input ≤ 65536 → Fits (program tasks) (start_store input)
+  pub tagged : Fits joins (with_object (flagged 1 (tag.Old 0 ∷ [])))
+  pub unknown_flag : Fits joins (with_object (record { kind = kind.Class 1; cells = []; flags = 2; tags = [] })) → ⊥
+  pub unknown_instance : Fits joins (with_object (flagged 1 (tag.Old 1 ∷ []))) → ⊥
+  pub one_instance_twice : Fits joins (with_object (flagged 1 (tag.Old 0 ∷ tag.Old 0 ∷ []))) → ⊥
+  pub unknown_class : Fits joins (with_object (flagged 3 [])) → ⊥
+  pub cell_too_many : Fits joins (with_object (record { kind = kind.Class 1; cells = value.Null ∷ []; flags = 1; tags = [] })) → ⊥
+  pub int_too_large : Fits joins (with_object (input_array (2147483648 ∷ []))) → ⊥
+  pub wrong_element : Fits joins (with_object (record { kind = kind.Objects 1; cells = value.Old 1 ∷ []; flags = 0; tags = [] })) → ⊥
 
 pub record Examples : Type 0 where
-  pub runs : (alloc : Global) → RunExamples alloc
-  pub enabled : (alloc : Global) → EnabledExamples alloc
+  pub runs : RunExamples
+  pub enabled : EnabledExamples
   pub room : (S : Plain) (c : Changes) → RoomExamples S c
-  pub text : (alloc : Global) (at : Place) (first second : List ℕ) → TextExamples alloc at first second
-  pub exits : (alloc : Global) → ExitExamples alloc
-  pub output : (alloc : Global) (output text : List ℕ) (history : List Invocation) → OutputExamples alloc output text history
-  pub pending : (alloc : Global) → PendingExamples alloc
+  pub text : (at : Place) (first second : List ℕ) → TextExamples at first second
+  pub exits : ExitExamples
+  pub output : (output text : List ℕ) (history : List Invocation) → OutputExamples output text history
+  pub pending : PendingExamples
   pub changes : ChangeExamples
-  pub fits : (alloc : Global) → FitExamples alloc
+  pub fits : FitExamples

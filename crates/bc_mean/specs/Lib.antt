@@ -1,4 +1,5 @@
 pub mod Store
+pub mod Named
 pub mod Enabled
 pub mod Listing
 pub mod Values
@@ -8,6 +9,7 @@ pub mod Execute
 pub mod Changes
 pub mod Commit
 pub mod Outcome
+pub mod Room
 pub mod Serial
 pub mod Orders
 pub mod Sound

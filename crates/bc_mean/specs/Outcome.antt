@@ -1,8 +1,6 @@
 -- What an invocation comes to in a store.
-use Rattle.std.specs.Prelude.{[], map, slice_get, Option, Some, None}
-use Rattle.bc_data.specs.Program.{Parts}
-use Rattle.bc_data.specs.ProgramView.{view_class, view_task}
-use Rattle.bc_data.specs.declared.program.Task.{Task}
+use Rattle.std.specs.Prelude.{[], slice_get, Option, Some, None}
+use Rattle.bc_data.specs.Typed.{TypedProgram, TypedTask}
 use Rattle.bc_data.specs.declared.run.Invocation.{Invocation}
 use Rattle.bc_data.specs.declared.run.Fault.{Fault}
 use Rattle.bc_data.specs.declared.run.FaultKind.{FaultKind}
@@ -32,19 +30,19 @@ abbrev pub ending : Plain → Got Flow → Outcome
 ending S (Gives flow w) = record { ran = ran.Commit (changes_between S w); touched = w.touched }
 ending S (Stops h w) = record { ran = ran.Faulted (fault_of h); touched = w.touched }
 
-abbrev pub world_of : Parts → Plain → Invocation → World
-world_of P S v = record { look = look_of S; classes = map view_class P.classes; objects = v.objects }
+abbrev pub world_of : TypedProgram → Plain → Invocation → World
+world_of P S v = record { look = look_of S; classes = P.classes; objects = v.objects }
 
-abbrev pub body_run : Parts → Plain → Option Task → Invocation → Got Flow
+abbrev pub body_run : TypedProgram → Plain → Option TypedTask → Invocation → Got Flow
 body_run P S None v = Stops Wrong (work_at_start v)
-body_run P S (Some t) v = execute_task (world_of P S v) (view_task t) v (work_at_start v)
+body_run P S (Some t) v = execute_task (world_of P S v) t v (work_at_start v)
 
 -- how the body of the invocation's task ends: it exits with these changes, or faults
-abbrev pub body_outcome : Parts → Plain → Invocation → Outcome
+abbrev pub body_outcome : TypedProgram → Plain → Invocation → Outcome
 body_outcome P S v = ending S (body_run P S (slice_get P.tasks v.task) v)
 
 -- the place of a task
-abbrev pub place_of : Option Task → Place
+abbrev pub place_of : Option TypedTask → Place
 place_of None = record { line = 0; column = 0 }
 place_of (Some t) = t.at
 
@@ -57,5 +55,5 @@ with_room S at (ran.Commit c) o = refused_room (fault_of_room S c) at o
 with_room S at (ran.Faulted f) o = o
 
 -- the same, where an exit without room is a fault at the task
-abbrev pub outcome : Parts → Plain → Invocation → Outcome
+abbrev pub outcome : TypedProgram → Plain → Invocation → Outcome
 outcome P S v = with_room S (place_of (slice_get P.tasks v.task)) (body_outcome P S v).ran (body_outcome P S v)

@@ -1,8 +1,8 @@
 -- Stores: the one at the start, and those that fit a program.
 use Rattle.std.specs.Prelude.{◌≡◌, ◌≢◌, ℕ, pos, ◌<◌, ◌≤◌, ◌^◌, List, [], ◌∷◌, length, map, sum_by, slice_get, Some, All, AllPairs, FitsSigned}
 use Rattle.std.specs.Int.{w32}
-use Rattle.bc_data.specs.Program.{Parts}
-use Rattle.bc_data.specs.declared.program.Class.{Class}
+use Rattle.bc_data.specs.Limits.{longest_array, most_cells, most_instances, most_objects, most_output}
+use Rattle.bc_data.specs.Typed.{TypedProgram, TypedClass}
 use Rattle.bc_data.specs.declared.program.Field.{Field}
 use Rattle.bc_data.specs.declared.program.Shape.{Shape}
 use Rattle.bc_data.specs.declared.program.Shape.TheVariants as shape
@@ -73,32 +73,32 @@ abbrev pub IsPresentTag : Plain → TagRef → Type 0
 IsPresentTag S (tag.Old n) = n < length S.tags
 IsPresentTag S (tag.New n) = ⊥
 
-pub record IsObject (P : Parts) (S : Plain) (c : ℕ) (b : Body) : Type 0 where
-  pub class : Class
+pub record IsObject (P : TypedProgram) (S : Plain) (c : ℕ) (b : Body) : Type 0 where
+  pub class : TypedClass
   pub declared : slice_get P.classes c ≡ Some class
-  pub cells : HaveShapes S class.fields.items b.cells
-  pub flags : b.flags < 2 ^ length class.flags.items
+  pub cells : HaveShapes S class.fields b.cells
+  pub flags : b.flags < 2 ^ length class.flags
   pub few_tags : length b.tags ≤ 16
   pub present_tags : All (IsPresentTag S) b.tags
   pub different_tags : AllPairs (λ s t. s ≢ t) b.tags
 
 pub record IsArray (S : Plain) (element : Shape) (b : Body) : Type 0 where
   pub cells : All (HasShape S element) b.cells
-  pub short : length b.cells ≤ 65536
+  pub short : length b.cells ≤ longest_array
   pub flags : b.flags ≡ 0
   pub tags : b.tags ≡ []
 
-abbrev pub FitsAs : Parts → Plain → Kind → Body → Type 0
+abbrev pub FitsAs : TypedProgram → Plain → Kind → Body → Type 0
 FitsAs P S (kind.Class c) b = IsObject P S c b
 FitsAs P S kind.Ints b = IsArray S shape.Int b
 FitsAs P S kind.Bools b = IsArray S shape.Bool b
 FitsAs P S (kind.Objects c) b = (c < length P.classes) × IsArray S (shape.Class c) b
 
 -- a store that fits a program, and keeps the limits
-pub record Fits (P : Parts) (S : Plain) : Type 0 where
+pub record Fits (P : TypedProgram) (S : Plain) : Type 0 where
   pub bodies : All (λ b. FitsAs P S b.kind b) S.bodies
   pub types : All (λ t. t < length P.tag_types) S.tags
-  pub objects : length S.bodies ≤ 65536
-  pub cells : cells_in S.bodies ≤ 4194304
-  pub instances : length S.tags ≤ 65536
-  pub output : length S.output ≤ 16777216
+  pub objects : length S.bodies ≤ most_objects
+  pub cells : cells_in S.bodies ≤ most_cells
+  pub instances : length S.tags ≤ most_instances
+  pub output : length S.output ≤ most_output

@@ -1,6 +1,7 @@
 -- The work of one invocation, and the small steps on it.
 use Rattle.std.specs.Prelude.{ℕ, zero, suc, ◌+◌, ◌-◌, ◌^◌, Bool, true, false, not, if◌then◌else◌, ◌&&◌, ◌==◌, nat_le, nat_lt, List, [], ◌∷◌, ◌++◌, filter, length, slice_get, slice_set, Option, Some, None, bit_and, bit_or}
 use Rattle.std.specs.List.{list_any}
+use Rattle.bc_data.specs.Limits.{most_cells, most_instances, most_objects, most_text}
 use Rattle.bc_data.specs.declared.run.Body.{Body}
 use Rattle.bc_data.specs.declared.run.Written.{Written}
 use Rattle.bc_data.specs.declared.run.Fault.{Fault}
@@ -120,7 +121,7 @@ write o b w = Gives tt (with_body o b w)
 -- the text of an invocation has at most 65,536 bytes
 abbrev pub say : Place → List ℕ → Work → Got (Unit {0})
 say at bytes w =
-    if nat_le (length w.text + length bytes) 65536 then Gives tt (record w { text = w.text ++ bytes }) else faults fault.Text at w
+    if nat_le (length w.text + length bytes) most_text then Gives tt (record w { text = w.text ++ bytes }) else faults fault.Text at w
 
 abbrev pub take_turn : Place → ℕ → Work → Got (Unit {0})
 take_turn at zero w = faults fault.Turns at w
@@ -156,12 +157,12 @@ unbind o t w = write o.object (record o.body { tags = filter (λ s. not (same_ta
 -- a new object, within the sizes that an invocation has: 65,536 new objects, and 4,194,304 cells in them
 abbrev pub make : Place → Body → Work → Got ℕ
 make at b w =
-    if nat_lt (length w.made) 65536 && nat_le (cells_in w.made + length b.cells) 4194304
+    if nat_lt (length w.made) most_objects && nat_le (cells_in w.made + length b.cells) most_cells
     then Gives (length w.made) (record w { made = w.made ++ b ∷ [] })
     else faults fault.Size at w
 
 -- a new tag instance of this type, of at most 65,536
 abbrev pub make_instance : Place → ℕ → Work → Got ℕ
 make_instance at tag_type w =
-    if nat_lt (length w.instances) 65536 then Gives (length w.instances) (record w { instances = w.instances ++ tag_type ∷ [] })
+    if nat_lt (length w.instances) most_instances then Gives (length w.instances) (record w { instances = w.instances ++ tag_type ∷ [] })
     else faults fault.Size at w

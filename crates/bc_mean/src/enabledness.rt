@@ -1,5 +1,6 @@
 // Whether an invocation is enabled, and all that are.
 
+ghost use Rattle.bc_data.specs.ProgramView.{view_flag_expr};
 ghost use Rattle.std.specs.Prelude.{◌≡◌, nat_lt, length, ◌&&◌, ◌==◌, slice_get};
 ghost use Rattle.std.specs.List.{list_all, list_any};
 ghost use Rattle.bc_data.specs.Guard.{guard_truth, is_set};
@@ -22,7 +23,7 @@ fn is_set(mask: u32, flag: u32) -> bool
 
 /// Whether these flags meet a guard.
 pub(crate) fn meets(guard: &FlagExpr, mask: u32) -> bool
-    ensures { result ≡ guard_truth guard.now mask }
+    ensures { result ≡ guard_truth (view_flag_expr guard.now) mask }
 {
     match guard {
         FlagExpr::Flag(flag) => is_set(mask, *flag),
@@ -82,7 +83,7 @@ fn carries(store: &Plain, task: &Task, instances: &[u32], body: &Body, variable:
     ensures { result ≡ carries store.now task.now instances.now body.now variable }
 {
     match (
-        task.variables.get(variable as usize),
+        task.variables().get(variable as usize),
         instances.get(variable as usize),
     ) {
         (Some(tag_type), Some(number)) => has_instance(store, body, *number, *tag_type),
@@ -104,13 +105,13 @@ fn takes(store: &Plain, task: &Task, instances: &[u32], param: &Param, id: u32) 
     let Some(body) = store.bodies.get(id as usize) else {
         return false;
     };
-    if !is_class(param.class, body.kind) {
+    if !is_class(param.class(), body.kind) {
         return false;
     }
-    if !meets(&param.guard, body.flags) {
+    if !meets(param.guard(), body.flags) {
         return false;
     }
-    carries_all(store, task, instances, body, param.binds.as_slice())
+    carries_all(store, task, instances, body, param.binds())
 }
 
 /// Whether there is one object for each parameter.
@@ -151,10 +152,10 @@ fn are_there(store: &Plain, instances: &[u32]) -> bool
 pub(crate) fn is_enabled_of(task: &Task, store: &Plain, objects: &[u32], instances: &[u32]) -> bool
     ensures { result ≡ is_enabled_of task.now store.now objects.now instances.now }
 {
-    if instances.len() != task.variables.len() {
+    if instances.len() != task.variables().len() {
         return false;
     }
-    if !take_all(store, task, instances, task.params.as_slice(), objects) {
+    if !take_all(store, task, instances, task.params(), objects) {
         return false;
     }
     are_different(objects) && are_there(store, instances)

@@ -28,7 +28,7 @@ fn may_stand(store: &Plain, param: &Param, id: u32) -> bool
 {
     match store.bodies.get(id as usize) {
         None => false,
-        Some(body) => is_class(param.class, body.kind) && meets(&param.guard, body.flags),
+        Some(body) => is_class(param.class(), body.kind) && meets(param.guard(), body.flags),
     }
 }
 
@@ -49,7 +49,7 @@ fn may_stand_all(store: &Plain, params: &[Param], ids: &[u32]) -> bool
 fn may_begin(task: &Task, store: &Plain, front: &[u32]) -> bool
     ensures { result ≡ may_begin task.now store.now front.now }
 {
-    may_stand_all(store, task.params.as_slice(), front) && are_different(front)
+    may_stand_all(store, task.params(), front) && are_different(front)
 }
 
 /// Appends an invocation, if it is enabled.
@@ -107,7 +107,7 @@ fn add_objects(
     left: usize,
 ) -> Result<(), AllocError>
     requires numbered { IsNumbered store.now }
-    requires few_variables { length task.now.variables.items ≤ 4 }
+    requires few_variables { length task.now.variables ≤ 4 }
     requires few { length front + left ≤ 4 }
     ensures { OnOk result (found.new ≡ found.old ++ listed_behind (enabled_on task.now store.now number) (length store.now.bodies) front left) }
 {
@@ -116,7 +116,7 @@ fn add_objects(
         return Ok(());
     }
     if left == 0 {
-        let variables = task.variables.len();
+        let variables = task.variables().len();
         return add_instances(task, store, found, number, front, Ids::none(), variables);
     }
     for id in 0..store.bodies.len() {
@@ -147,7 +147,7 @@ fn add_task(
     match task_at(program, number) {
         None => Ok(()),
         Some(task) => {
-            let params = task.params.len();
+            let params = task.params().len();
             add_objects(task, store, found, number, Ids::none(), params)
         }
     }

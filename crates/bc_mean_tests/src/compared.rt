@@ -1,6 +1,5 @@
 // The run of an invocation by its code, beside what it comes to by its program.
 
-ghost use Rattle.bc_data.specs.ProgramView.{view_program};
 ghost use Rattle.bc_mean.specs.Enabled.{IsEnabled};
 ghost use Rattle.bc_mean.specs.Store.{Fits};
 ghost use Rattle.bc_code.specs.Translation.{Translates};
@@ -80,7 +79,7 @@ pub fn compare(
     v: Invocation,
     out: &Outcome,
 ) -> Result<(), Fail>
-    requires translated { Translates (view_program program.now) code.now }
+    requires translated { Translates program.now code.now }
     requires fits { Fits program.now store.now }
     requires enabled { IsEnabled program.now store.now v }
 {

@@ -5,9 +5,7 @@ ghost use Rattle.std.specs.Prelude.{◌≤◌, length};
 use crate::serial::{Course, Failure, serial};
 use bc_data::program::Program;
 use bc_data::run::Invocation;
-use bc_lex::tokens;
-use bc_parse::parse;
-use bc_types::check;
+use bc_read::reader::read_program;
 use std::alloc::Global;
 use std::process::Abort;
 use std::test::Fail;
@@ -23,19 +21,12 @@ pub struct Row<'a> {
 }
 
 /// The program of a text.
-#[tactic(auto, using(bc_parse::proofs::Lexed::ended, bc_accepted::proofs::Accepted::grammatical))]
 pub fn accepted(alloc: Global, text: &str) -> Result<Program, Fail>
     requires { length text.now ≤ 1048576 }
 {
-    let Ok(found) = tokens(alloc, text.as_bytes()) else {
-        return Err("a text has tokens".into());
-    };
-    match parse(alloc, text.as_bytes(), &found) {
-        Ok(tree) => match check(alloc, &tree) {
-            Ok(program) => Ok(program),
-            Err(_) => Err("a text is accepted".into()),
-        },
-        Err(_) => Err("a text has a tree".into()),
+    match read_program(alloc, text.as_bytes()) {
+        Ok(read) => Ok(read.program),
+        Err(_) => Err("a text is a program".into()),
     }
 }
 
@@ -59,7 +50,7 @@ pub fn push_invocation(
     let Some(task) = program.tasks().get(v.task as usize) else {
         return Err("an invocation has a task".into());
     };
-    text.push_str(String::from_utf8_lossy(alloc, task.name.as_slice())?.as_str())?;
+    text.push_str(String::from_utf8_lossy(alloc, task.name())?.as_str())?;
     text.push_str("(")?;
     push_numbers(alloc, text, v.objects.as_slice())?;
     if !v.tags.is_empty() {

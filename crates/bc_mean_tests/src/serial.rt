@@ -2,7 +2,6 @@
 // is run by its code too.
 
 ghost use Rattle.std.specs.Prelude.{◌≡◌, ◌≤◌, length, IfOk, OnOk};
-ghost use Rattle.bc_data.specs.ProgramView.{view_program};
 ghost use Rattle.bc_mean.specs.Changes.{apply_changes};
 ghost use Rattle.bc_mean.specs.Commit.{HasRoom};
 ghost use Rattle.bc_mean.specs.Enabled.{IsEnabled};
@@ -15,12 +14,12 @@ use bc_code::code::Code;
 use bc_data::list::List;
 use bc_data::program::Program;
 use bc_data::run::{Changes, Fault, Invocation, Outcome, Ran};
-use bc_fitness::{commits_have_room, keeps_fit};
 use bc_gen_stmt::generate;
+use bc_law_histories::start_fits;
+use bc_law_soundness::{commits_have_room, keeps_fit};
 use bc_mean::plain::Plain;
 use bc_mean::{all_enabled, apply, is_enabled, start};
-use bc_replay::start_fits;
-use bc_tree::run_tree;
+use bc_mean_run::run_tree;
 use std::alloc::Global;
 use std::mem;
 use std::process::Abort;
@@ -193,7 +192,7 @@ fn advance(
     course: &mut Course,
     limit: usize,
 ) -> Result<bool, Fail>
-    requires translated { Translates (view_program program.now) code.now }
+    requires translated { Translates program.now code.now }
     requires fits { Fits program.now course.old.store }
     ensures { OnOk result (Fits program.now course.new.store) }
 {

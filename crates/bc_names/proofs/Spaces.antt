@@ -6,7 +6,7 @@ use Rattle.std.specs.Cmp.Lexicographic.{pointwise}
 use Rattle.std.specs.declared.vec.Vec.{Vec}
 use Rattle.std.proofs.lemmas.Bool.{lt-ltb, ltb-true, ltb_from_iff}
 use Rattle.std.proofs.lemmas.List.{length-map, map-append}
-use Rattle.bc_rules.specs.Numbering.{Space, number_of}
+use Rattle.bc_types_rules.specs.Numbering.{Space, number_of}
 use Rattle.bc_names.specs.Space.{names_of}
 
 prefix_len-map : {X Y : Type 0} (p : Y → Bool) (f : X → Y) (xs : List X) → prefix_len p (map f xs) ≡ prefix_len (λ x. p (f x)) xs

@@ -3,8 +3,8 @@ use Rattle.std.proofs.Common.{◌≡◌, ℕ, ◌+◌, ◌<◌, List, [], ◌∷
 use Rattle.std.proofs.lemmas.List.{take_more, take-append-drop}
 use Rattle.bc_data.specs.SourceTree.{Sequence, Empty, More}
 use Rattle.bc_data.specs.View.{onto_by}
-use Rattle.bc_rules.specs.Got.{Got, Gives, ◌>>=◌}
-use Rattle.bc_rules.specs.Numbering.{try_fold}
+use Rattle.bc_types_rules.specs.Got.{Got, Gives, ◌>>=◌}
+use Rattle.bc_types_rules.specs.Numbering.{try_fold}
 use Rattle.bc_names.specs.Answers.{Stops}
 use Rattle.bc_names.specs.declared.fault.TypeFault.{TypeFault}
 use Rattle.bc_names.specs.declared.fault.TypeFault.TheVariants as fault

@@ -1,7 +1,7 @@
 -- A function's answer is the definition's: its value, or its fault with its place. Want of memory alone is free.
 use Rattle.std.specs.Prelude.{◌≡◌, Result, Ok, Err}
-use Rattle.bc_rules.specs.Got as rules
-use Rattle.bc_rules.specs.Got.{Got, Gives, Fails}
+use Rattle.bc_types_rules.specs.Got as rules
+use Rattle.bc_types_rules.specs.Got.{Got, Gives, Fails}
 use Rattle.bc_names.specs.declared.fault.TypeKind.{TypeKind}
 use Rattle.bc_names.specs.declared.fault.TypeKind.TheVariants as kind
 use Rattle.bc_names.specs.declared.fault.TypeFault.{TypeFault}

@@ -1,8 +1,8 @@
 // What a class declares.
 
 ghost use Rattle.std.specs.Prelude.{◌≡◌};
-ghost use Rattle.bc_rules.specs.Numbering.{declare_maker, declare_member, no_members, startup_members, number_of, try_fold};
-ghost use Rattle.bc_rules.specs.Got.{Gives};
+ghost use Rattle.bc_types_rules.specs.Numbering.{declare_maker, declare_member, no_members, startup_members, number_of, try_fold};
+ghost use Rattle.bc_types_rules.specs.Got.{Gives};
 ghost use Rattle.bc_data.specs.SourceTree.{Empty};
 ghost use Rattle.bc_data.specs.View.{onto_by, view_member};
 ghost use Rattle.bc_names.specs.Answers.{Answers};
@@ -29,7 +29,7 @@ pub struct Members {
 }
 
 impl Model for Members {
-    ghost use Rattle.bc_rules.specs.Numbering as numbering;
+    ghost use Rattle.bc_types_rules.specs.Numbering as numbering;
 
     ghost Value = { numbering.Members };
 

@@ -3,8 +3,8 @@
 ghost use Rattle.std.specs.Prelude.{◌≡◌};
 ghost use Rattle.bc_data.specs.SourceTree.{Empty};
 ghost use Rattle.bc_data.specs.View.{onto_by, view_member, view_text_item, view_tree};
-ghost use Rattle.bc_rules.specs.Got.{Gives};
-ghost use Rattle.bc_rules.specs.Numbering.{declare_class, declare_item, member_number, number_of, numbering, startup_spaces, try_fold};
+ghost use Rattle.bc_types_rules.specs.Got.{Gives};
+ghost use Rattle.bc_types_rules.specs.Numbering.{declare_class, declare_item, member_number, number_of, numbering, startup_spaces, try_fold};
 ghost use Rattle.bc_names.specs.Answers.{Answers};
 
 use crate::fault::TypeFault;
@@ -31,7 +31,7 @@ pub struct Names {
 }
 
 impl Model for Names {
-    ghost use Rattle.bc_rules.specs.Numbering.{Spaces};
+    ghost use Rattle.bc_types_rules.specs.Numbering.{Spaces};
 
     ghost Value = { Spaces };
 
@@ -57,7 +57,8 @@ impl Names {
 
     /// Declares a class and its members.
     fn declare_class(&mut self, alloc: Global, class: &ClassText) -> Result<(), TypeFault>
-        ensures { Answers result (λ _. self.new) (declare_class self.old class.now.name (onto_by view_member class.now.members.items Empty)) }
+        ensures { Answers result (λ _. self.new)
+            (declare_class self.old class.now.name (onto_by view_member class.now.members.items Empty)) }
     {
         self.classes.declare(alloc, MOST_CLASSES, &class.name)?;
         let members = members_of(alloc, &class.members)?;
@@ -121,7 +122,8 @@ impl Names {
 
 /// The names that a program with these items has.
 fn names_of(alloc: Global, items: &[Item]) -> Result<Names, TypeFault>
-    ensures { Answers result (λ names. names) (try_fold declare_item startup_spaces (onto_by view_text_item items.now Empty)) }
+    ensures { Answers result (λ names. names)
+        (try_fold declare_item startup_spaces (onto_by view_text_item items.now Empty)) }
 {
     let mut names = Names::of_startup(alloc)?;
     for item in items {

@@ -1,7 +1,7 @@
 // One space of names.
 
 ghost use Rattle.std.specs.Prelude.{◌≡◌, ◌<◌, ◌≤◌, [], ◌∷◌, ◌++◌, length, None, OnOk};
-ghost use Rattle.bc_rules.specs.Numbering.{declare, number_of};
+ghost use Rattle.bc_types_rules.specs.Numbering.{declare, number_of};
 ghost use Rattle.bc_names.specs.Answers.{Answers};
 
 use crate::fault::{TypeFault, TypeKind};

@@ -3,22 +3,17 @@
 ghost use Rattle.std.specs.Prelude.{◌≤◌, length};
 
 use bc_data::text::read_decimal;
-use bc_lex::tokens;
 use bc_names::{Names, TypeFault, TypeKind, number};
-use bc_parse::parse;
+use bc_read::reader::read_tree;
 use std::alloc::Global;
 use std::process::Abort;
 use std::test::Fail;
 
 /// The numbers of the names of a text that has a tree, or its first fault.
-#[tactic(auto, using(bc_parse::proofs::Lexed::ended))]
 pub fn numbered(alloc: Global, text: &str) -> Result<Result<Names, TypeFault>, Fail>
     requires { length text.now ≤ 1048576 }
 {
-    let Ok(found) = tokens(alloc, text.as_bytes()) else {
-        return Err("a text has tokens".into());
-    };
-    match parse(alloc, text.as_bytes(), &found) {
+    match read_tree(alloc, text.as_bytes()) {
         Ok(tree) => Ok(number(alloc, &tree)),
         Err(_) => Err("a text has a tree".into()),
     }

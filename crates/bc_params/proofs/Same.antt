@@ -8,31 +8,30 @@ use Rattle.std.proofs.lemmas.List.Sums.{sum_by-cons}
 use Rattle.bc_data.specs.declared.run.Body.{Body}
 use Rattle.bc_data.specs.declared.run.TagRef.{TagRef}
 use Rattle.bc_data.specs.declared.run.TagRef.TheVariants as tag
-use Rattle.bc_data.specs.declared.program.Param.{Param}
-use Rattle.bc_data.specs.declared.program.Task.{Task}
+use Rattle.bc_data.specs.Typed.{TypedParam, TypedTask}
 use Rattle.bc_mean.specs.Enabled.{is_some_and, is_instance}
-use Rattle.bc_sets.specs.declared.tag_index.Binding.{Binding}
-use Rattle.bc_sets.specs.declared.place.Place.{Place}
-use Rattle.bc_sets.specs.declared.place.TaskSets.{TaskSets}
-use Rattle.bc_sets.specs.Members.{has, IsRising}
-use Rattle.bc_sets.specs.Kept.{IsPlace, ArePlaces, AreTasks, fits}
+use Rattle.bc_params_sets.specs.declared.tag_index.Binding.{Binding}
+use Rattle.bc_params_sets.specs.declared.place.Place.{Place}
+use Rattle.bc_params_sets.specs.declared.place.TaskSets.{TaskSets}
+use Rattle.bc_params_sets.specs.Members.{has, IsRising}
+use Rattle.bc_params_sets.specs.Kept.{IsPlace, ArePlaces, AreTasks, fits}
 use Rattle.bc_params.specs.Look.{put_look}
 use Rattle.bc_params.specs.Places.{Each, AtEachPlace, is_of, places_of, params_of}
 use Rattle.bc_params.specs.Laws.{SameLook, MoreTypes, OneSets, PlacesOfParams, PutBack, IsTyped, AreTyped, IsSamePlace}
 use Rattle.bc_params.proofs.Pairs.{each_cons, each_nil, all_head, all_tail}
 
 -- another look-up with the same bodies
-places_seen : (look other : ℕ → Option Body) → ((x : ℕ) → other x ≡ look x) → (ps : List Param) (qs : List Place) → ArePlaces look ps qs → ArePlaces other ps qs
+places_seen : (look other : ℕ → Option Body) → ((x : ℕ) → other x ≡ look x) → (ps : List TypedParam) (qs : List Place) → ArePlaces look ps qs → ArePlaces other ps qs
 places_seen look other e [] [] a = tt
 places_seen look other e [] (q ∷ qs) a = absurd a
 places_seen look other e (p ∷ ps) [] a = absurd a
 places_seen look other e (p ∷ ps) (q ∷ qs) a = (record { class = a.0.class; guard = a.0.guard; binds = a.0.binds; objects = λ x. a.0.objects x ∙ ap (fits p) (sym (e x)) }, places_seen look other e ps qs a.1)
 
-tasks_seen : (look other : ℕ → Option Body) → ((x : ℕ) → other x ≡ look x) → (ts : List Task) (ss : List TaskSets) → AreTasks look ts ss → AreTasks other ts ss
+tasks_seen : (look other : ℕ → Option Body) → ((x : ℕ) → other x ≡ look x) → (ts : List TypedTask) (ss : List TaskSets) → AreTasks look ts ss → AreTasks other ts ss
 tasks_seen look other e [] [] a = tt
 tasks_seen look other e [] (s ∷ ss) a = absurd a
 tasks_seen look other e (t ∷ ts) [] a = absurd a
-tasks_seen look other e (t ∷ ts) (s ∷ ss) a = (record { places = places_seen look other e t.params.items s.places a.0.places; variables = a.0.variables }, tasks_seen look other e ts ss a.1)
+tasks_seen look other e (t ∷ ts) (s ∷ ss) a = (record { places = places_seen look other e t.params s.places a.0.places; variables = a.0.variables }, tasks_seen look other e ts ss a.1)
 
 -- a body carries the instance of a binding, of its type
 carry : List ℕ → Binding → Option Body → Bool
@@ -118,7 +117,7 @@ one_list (x ∷ xs) (y ∷ ys) a b h =
     (λ s. (not_later x xs z a (eqb-true x z s), not_later y ys z b (sym e ∙ eqb-true x z s)))) in
     ap (λ n. n ∷ ys) (sym e) ∙ ap (λ (l : List ℕ). x ∷ l) rest
 
-one_place : (look : ℕ → Option Body) (p : Param) (q r : Place) → IsPlace look p q → IsPlace look p r → IsRising q.objects.members → IsRising r.objects.members → IsSamePlace q r
+one_place : (look : ℕ → Option Body) (p : TypedParam) (q r : Place) → IsPlace look p q → IsPlace look p r → IsRising q.objects.members → IsRising r.objects.members → IsSamePlace q r
 one_place look p q r a b up also = record {
   class = b.class ∙ sym a.class;
   binds = b.binds ∙ sym a.binds;
@@ -128,7 +127,7 @@ one_place look p q r a b up also = record {
 abbrev Up : Place → Type 0
 Up q = IsRising q.objects.members
 
-one_places : (look : ℕ → Option Body) (ps : List Param) (qs rs : List Place) → ArePlaces look ps qs → ArePlaces look ps rs → All Up qs → All Up rs → Each IsSamePlace qs rs
+one_places : (look : ℕ → Option Body) (ps : List TypedParam) (qs rs : List Place) → ArePlaces look ps qs → ArePlaces look ps rs → All Up qs → All Up rs → Each IsSamePlace qs rs
 one_places look [] [] [] a b u v = each_nil IsSamePlace
 one_places look [] [] (r ∷ rs) a b u v = absurd b
 one_places look [] (q ∷ qs) rs a b u v = absurd a
@@ -140,14 +139,14 @@ one_places look (p ∷ ps) (q ∷ qs) (r ∷ rs) a b u v =
 abbrev TaskUp : TaskSets → Type 0
 TaskUp t = All Up t.places
 
-one_tasks : (look : ℕ → Option Body) (ts : List Task) (ss us : List TaskSets) → AreTasks look ts ss → AreTasks look ts us → All TaskUp ss → All TaskUp us → Each (AtEachPlace IsSamePlace) ss us
+one_tasks : (look : ℕ → Option Body) (ts : List TypedTask) (ss us : List TaskSets) → AreTasks look ts ss → AreTasks look ts us → All TaskUp ss → All TaskUp us → Each (AtEachPlace IsSamePlace) ss us
 one_tasks look [] [] [] a b u v = each_nil (AtEachPlace IsSamePlace)
 one_tasks look [] [] (r ∷ rs) a b u v = absurd b
 one_tasks look [] (q ∷ qs) rs a b u v = absurd a
 one_tasks look (p ∷ ps) [] rs a b u v = absurd a
 one_tasks look (p ∷ ps) (q ∷ qs) [] a b u v = absurd b
 one_tasks look (t ∷ ts) (q ∷ qs) (r ∷ rs) a b u v =
-    each_cons (AtEachPlace IsSamePlace) q r qs rs (record { places = one_places look t.params.items q.places r.places a.0.places b.0.places (all_head TaskUp q qs u) (all_head TaskUp r rs v); variables = b.0.variables ∙ sym a.0.variables })
+    each_cons (AtEachPlace IsSamePlace) q r qs rs (record { places = one_places look t.params q.places r.places a.0.places b.0.places (all_head TaskUp q qs u) (all_head TaskUp r rs v); variables = b.0.variables ∙ sym a.0.variables })
     (one_tasks look ts qs rs a.1 b.1 (all_tail TaskUp q qs u) (all_tail TaskUp r rs v))
 
 pub only_sets : OneSets
@@ -160,26 +159,26 @@ only_sets P look types j k u v a b = record {
 both : (k l m n : ℕ) → k ≡ l → m ≡ n → k + m ≡ l + n
 both k l m n e h = omega arith
 
-abbrev has_class : Option ℕ → Param → Bool
+abbrev has_class : Option ℕ → TypedParam → Bool
 has_class class p = is_some_and class (λ c. p.class == c)
 
-places_counted : (class : Option ℕ) (look : ℕ → Option Body) (ps : List Param) (qs : List Place) → ArePlaces look ps qs → count_by (is_of class) qs ≡ count_by (has_class class) ps
+places_counted : (class : Option ℕ) (look : ℕ → Option Body) (ps : List TypedParam) (qs : List Place) → ArePlaces look ps qs → count_by (is_of class) qs ≡ count_by (has_class class) ps
 places_counted class look [] [] a = refl
 places_counted class look [] (q ∷ qs) a = absurd a
 places_counted class look (p ∷ ps) [] a = absurd a
 places_counted class look (p ∷ ps) (q ∷ qs) a =
     sum_by-cons (λ (r : Place). cond (is_of class r) 1 0) q qs ∙ (both (cond (is_of class q) 1 0) (cond (has_class class p) 1 0) (count_by (is_of class) qs) (count_by (has_class class) ps)
     (ap (λ x. cond (is_some_and class (λ c. x == c)) 1 0) a.0.class) (places_counted class look ps qs a.1)
-    ∙ sym (sum_by-cons (λ (r : Param). cond (has_class class r) 1 0) p ps))
+    ∙ sym (sum_by-cons (λ (r : TypedParam). cond (has_class class r) 1 0) p ps))
 
-tasks_counted : (class : Option ℕ) (look : ℕ → Option Body) (ts : List Task) (ss : List TaskSets) → AreTasks look ts ss → places_of class ss ≡ params_of class ts
+tasks_counted : (class : Option ℕ) (look : ℕ → Option Body) (ts : List TypedTask) (ss : List TaskSets) → AreTasks look ts ss → places_of class ss ≡ params_of class ts
 tasks_counted class look [] [] a = refl
 tasks_counted class look [] (s ∷ ss) a = absurd a
 tasks_counted class look (t ∷ ts) [] a = absurd a
 tasks_counted class look (t ∷ ts) (s ∷ ss) a =
-    sum_by-cons (λ (r : TaskSets). count_by (is_of class) r.places) s ss ∙ (both (count_by (is_of class) s.places) (count_by (has_class class) t.params.items) (places_of class ss) (params_of class ts)
-    (places_counted class look t.params.items s.places a.0.places) (tasks_counted class look ts ss a.1)
-    ∙ sym (sum_by-cons (λ (r : Task). count_by (has_class class) r.params.items) t ts))
+    sum_by-cons (λ (r : TaskSets). count_by (is_of class) r.places) s ss ∙ (both (count_by (is_of class) s.places) (count_by (has_class class) t.params) (places_of class ss) (params_of class ts)
+    (places_counted class look t.params s.places a.0.places) (tasks_counted class look ts ss a.1)
+    ∙ sym (sum_by-cons (λ (r : TypedTask). count_by (has_class class) r.params) t ts))
 
 pub counted_sets : PlacesOfParams
 counted_sets P look types k class a = tasks_counted class look P.tasks k.tasks a.tasks

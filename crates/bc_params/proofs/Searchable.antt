@@ -6,8 +6,6 @@ use Rattle.std.specs.List.{list_any, All, AllByRecursion}
 use Rattle.std.proofs.lemmas.Bool.{or_left, or_right}
 use Rattle.std.proofs.lemmas.List.Folds.{list_any_at}
 use Rattle.std.proofs.lemmas.List.Elements.{All-cons, All-nil}
-use Rattle.bc_data.specs.Program.{Parts}
-use Rattle.bc_data.specs.ProgramView.{view_program, view_task, view_program_param}
 use Rattle.bc_data.specs.Typed.{TypedParam, TypedTask, TypedProgram}
 use Rattle.bc_data.specs.WellTyped.{IsTask, IsWellTyped}
 use Rattle.bc_data.specs.declared.run.Body.{Body}
@@ -16,15 +14,13 @@ use Rattle.bc_mean.specs.declared.plain.Plain.{Plain}
 use Rattle.bc_mean.specs.Enabled.{all_enabled}
 use Rattle.bc_mean.specs.Orders.{IsAscending}
 use Rattle.bc_mean.specs.Serial.{listed}
-use Rattle.bc_data.specs.declared.program.Param.{Param}
-use Rattle.bc_data.specs.declared.program.Task.{Task}
-use Rattle.bc_sets.specs.declared.place.Place.{Place}
-use Rattle.bc_sets.specs.declared.place.TaskSets.{TaskSets}
-use Rattle.bc_sets.specs.Members.{has}
-use Rattle.bc_sets.specs.Kept.{Kept, IsTaskSets, ArePlaces, AreTasks, AreSets, is_enabled_by}
-use Rattle.bc_tuples.specs.Tuples.{AreFew, IsSmall, IsBound, names}
-use Rattle.bc_tuples.proofs.Sets.{tuples_are_enabled}
-use Rattle.bc_tuples.specs.Laws.{BindsAll}
+use Rattle.bc_params_sets.specs.declared.place.Place.{Place}
+use Rattle.bc_params_sets.specs.declared.place.TaskSets.{TaskSets}
+use Rattle.bc_params_sets.specs.Members.{has}
+use Rattle.bc_params_sets.specs.Kept.{Kept, IsTaskSets, ArePlaces, AreTasks, AreSets, is_enabled_by}
+use Rattle.bc_params_search.specs.Tuples.{AreFew, IsSmall, IsBound, names}
+use Rattle.bc_params_search.proofs.Sets.{tuples_are_enabled}
+use Rattle.bc_params_search.specs.Laws.{BindsAll}
 use Rattle.bc_params.specs.Look.{nobody}
 use Rattle.bc_params.specs.Places.{Each, AtEachPlace, IsUpdated, IsRoomier, IsSearchable}
 use Rattle.bc_params.specs.declared.places.Update.{Update}
@@ -36,75 +32,75 @@ has_at : (xs : List ℕ) (k x : ℕ) → k < length xs → get_or xs k x ≡ x �
 has_at xs k x l e = list_any_at (λ y. y == x) xs k x l (eq-eqb (get_or xs k x) x e)
 
 -- a parameter at some place of a viewed list that binds the variable
-any_viewed : (b : ℕ) (p : TypedParam) (ps : List Param) (k : ℕ) → k < length (map view_program_param ps) → get_or (map view_program_param ps) k p ≡ p → has p.binds b ≡ true
-    → list_any (λ q. has q.binds.items b) ps ≡ true
+any_viewed : (b : ℕ) (p : TypedParam) (ps : List TypedParam) (k : ℕ) → k < length ps → get_or ps k p ≡ p → has p.binds b ≡ true
+    → list_any (λ q. has q.binds b) ps ≡ true
 any_viewed b p [] k l e h = absurd (omega arith)
-any_viewed b p (q ∷ qs) zero l e h = or_left (has q.binds.items b) (list_any (λ q. has q.binds.items b) qs) (ap (λ (r : TypedParam). has r.binds b) e ∙ h)
-any_viewed b p (q ∷ qs) (suc k) l e h = or_right (has q.binds.items b) (list_any (λ q. has q.binds.items b) qs) (any_viewed b p qs k (omega arith) e h)
+any_viewed b p (q ∷ qs) zero l e h = or_left (has q.binds b) (list_any (λ q. has q.binds b) qs) (ap (λ (r : TypedParam). has r.binds b) e ∙ h)
+any_viewed b p (q ∷ qs) (suc k) l e h = or_right (has q.binds b) (list_any (λ q. has q.binds b) qs) (any_viewed b p qs k (omega arith) e h)
 
-task_binds : (P : TypedProgram) (t : Task) → IsTask P (view_task t) → BindsAll t
+task_binds : (P : TypedProgram) (t : TypedTask) → IsTask P t → BindsAll t
 task_binds P t typed b h =
     let found = typed.bound b h in
-    any_viewed b found.0 t.params.items found.1.0 found.1.1 found.1.2 (has_at found.0.binds found.2.0 b found.2.1 found.2.2)
+    any_viewed b found.0 t.params found.1.0 found.1.1 found.1.2 (has_at found.0.binds found.2.0 b found.2.1 found.2.2)
 
-tasks_bind : (P : TypedProgram) (ts : List Task) → All (IsTask P) (map view_task ts) → All BindsAll ts
+tasks_bind : (P : TypedProgram) (ts : List TypedTask) → All (IsTask P) ts → All BindsAll ts
 tasks_bind P [] h = All-nil BindsAll
-tasks_bind P (t ∷ ts) h = All-cons BindsAll t ts (task_binds P t (all_head (IsTask P) (view_task t) (map view_task ts) h)) (tasks_bind P ts (all_tail (IsTask P) (view_task t) (map view_task ts) h))
+tasks_bind P (t ∷ ts) h = All-cons BindsAll t ts (task_binds P t (all_head (IsTask P) t ts h)) (tasks_bind P ts (all_tail (IsTask P) t ts h))
 
-pub program_binds : (P : Parts) → IsWellTyped (view_program P) → All BindsAll P.tasks
-program_binds P typed = tasks_bind (view_program P) P.tasks typed.tasks
+pub program_binds : (P : TypedProgram) → IsWellTyped P → All BindsAll P.tasks
+program_binds P typed = tasks_bind P P.tasks typed.tasks
 
 -- the places of a task have the binds of its parameters
-places_bind : (look : ℕ → Option Body) (b : ℕ) (ps : List Param) (qs : List Place) → ArePlaces look ps qs → list_any (λ q. has q.binds b) qs ≡ list_any (λ p. has p.binds.items b) ps
+places_bind : (look : ℕ → Option Body) (b : ℕ) (ps : List TypedParam) (qs : List Place) → ArePlaces look ps qs → list_any (λ q. has q.binds b) qs ≡ list_any (λ p. has p.binds b) ps
 places_bind look b [] [] a = refl
 places_bind look b [] (q ∷ qs) a = absurd a
 places_bind look b (p ∷ ps) [] a = absurd a
 places_bind look b (p ∷ ps) (q ∷ qs) a = ap₂ (λ (x : Bool) (y : Bool). x || y) (ap (λ (bs : List ℕ). has bs b) a.0.binds) (places_bind look b ps qs a.1)
 
-places_long : (look : ℕ → Option Body) (ps : List Param) (qs : List Place) → ArePlaces look ps qs → length qs ≡ length ps
+places_long : (look : ℕ → Option Body) (ps : List TypedParam) (qs : List Place) → ArePlaces look ps qs → length qs ≡ length ps
 places_long look [] [] a = refl
 places_long look [] (q ∷ qs) a = absurd a
 places_long look (p ∷ ps) [] a = absurd a
 places_long look (p ∷ ps) (q ∷ qs) a = ap suc (places_long look ps qs a.1)
 
-tasks_long : (look : ℕ → Option Body) (ts : List Task) (ss : List TaskSets) → AreTasks look ts ss → length ss ≡ length ts
+tasks_long : (look : ℕ → Option Body) (ts : List TypedTask) (ss : List TaskSets) → AreTasks look ts ss → length ss ≡ length ts
 tasks_long look [] [] a = refl
 tasks_long look [] (s ∷ ss) a = absurd a
 tasks_long look (t ∷ ts) [] a = absurd a
 tasks_long look (t ∷ ts) (s ∷ ss) a = ap suc (tasks_long look ts ss a.1)
 
-small_task : (P : TypedProgram) (look : ℕ → Option Body) (t : Task) (s : TaskSets) → IsTask P (view_task t) → IsTaskSets look t s → IsSmall s
+small_task : (P : TypedProgram) (look : ℕ → Option Body) (t : TypedTask) (s : TaskSets) → IsTask P t → IsTaskSets look t s → IsSmall s
 small_task P look t s typed a = record {
-  places = omega (arith, places_long look t.params.items s.places a.places, length-map t.params.items view_program_param, typed.few_params);
+  places = omega (arith, places_long look t.params s.places a.places, typed.few_params);
   variables = omega (arith, ap length a.variables, typed.few_variables);
 }
 
-bound_task : (P : TypedProgram) (look : ℕ → Option Body) (t : Task) (s : TaskSets) → IsTask P (view_task t) → IsTaskSets look t s → IsBound s
+bound_task : (P : TypedProgram) (look : ℕ → Option Body) (t : TypedTask) (s : TaskSets) → IsTask P t → IsTaskSets look t s → IsBound s
 bound_task P look t s typed a b h =
-    places_bind look b t.params.items s.places a.places ∙ task_binds P t typed b (omega (arith, ap length a.variables, h))
+    places_bind look b t.params s.places a.places ∙ task_binds P t typed b (omega (arith, ap length a.variables, h))
 
-small_tasks : (P : TypedProgram) (look : ℕ → Option Body) (ts : List Task) (ss : List TaskSets) → All (IsTask P) (map view_task ts) → AreTasks look ts ss → All IsSmall ss
+small_tasks : (P : TypedProgram) (look : ℕ → Option Body) (ts : List TypedTask) (ss : List TaskSets) → All (IsTask P) ts → AreTasks look ts ss → All IsSmall ss
 small_tasks P look [] [] h a = All-nil IsSmall
 small_tasks P look [] (s ∷ ss) h a = absurd a
 small_tasks P look (t ∷ ts) [] h a = absurd a
 small_tasks P look (t ∷ ts) (s ∷ ss) h a =
-    All-cons IsSmall s ss (small_task P look t s (all_head (IsTask P) (view_task t) (map view_task ts) h) a.0) (small_tasks P look ts ss (all_tail (IsTask P) (view_task t) (map view_task ts) h) a.1)
+    All-cons IsSmall s ss (small_task P look t s (all_head (IsTask P) t ts h) a.0) (small_tasks P look ts ss (all_tail (IsTask P) t ts h) a.1)
 
-bound_tasks : (P : TypedProgram) (look : ℕ → Option Body) (ts : List Task) (ss : List TaskSets) → All (IsTask P) (map view_task ts) → AreTasks look ts ss → All IsBound ss
+bound_tasks : (P : TypedProgram) (look : ℕ → Option Body) (ts : List TypedTask) (ss : List TaskSets) → All (IsTask P) ts → AreTasks look ts ss → All IsBound ss
 bound_tasks P look [] [] h a = All-nil IsBound
 bound_tasks P look [] (s ∷ ss) h a = absurd a
 bound_tasks P look (t ∷ ts) [] h a = absurd a
 bound_tasks P look (t ∷ ts) (s ∷ ss) h a =
-    All-cons IsBound s ss (bound_task P look t s (all_head (IsTask P) (view_task t) (map view_task ts) h) a.0) (bound_tasks P look ts ss (all_tail (IsTask P) (view_task t) (map view_task ts) h) a.1)
+    All-cons IsBound s ss (bound_task P look t s (all_head (IsTask P) t ts h) a.0) (bound_tasks P look ts ss (all_tail (IsTask P) t ts h) a.1)
 
 -- the sets of a well typed program can be searched
-pub program_searchable : (P : Parts) (look : ℕ → Option Body) (ss : List TaskSets) → IsWellTyped (view_program P) → AreTasks look P.tasks ss → IsSearchable ss
+pub program_searchable : (P : TypedProgram) (look : ℕ → Option Body) (ss : List TaskSets) → IsWellTyped P → AreTasks look P.tasks ss → IsSearchable ss
 program_searchable P look ss typed a = record {
   few = record {
-    tasks = omega (arith, tasks_long look P.tasks ss a, length-map P.tasks view_task, typed.few_tasks);
-    each = small_tasks (view_program P) look P.tasks ss typed.tasks a;
+    tasks = omega (arith, tasks_long look P.tasks ss a, typed.few_tasks);
+    each = small_tasks P look P.tasks ss typed.tasks a;
   };
-  bound = bound_tasks (view_program P) look P.tasks ss typed.tasks a;
+  bound = bound_tasks P look P.tasks ss typed.tasks a;
 }
 
 -- so they can be where each place keeps its binds
@@ -139,7 +135,7 @@ roomier_searchable ts ss each h = searchable_through IsRoomier (λ q r e. e.bind
 -- What a search finds by the sets are the first enabled invocations that name the object.
 pub found_enabled : (k : Kept) (id most : ℕ) (vs : List Invocation)
     → ((all : List Invocation) → IsAscending all → ((v : Invocation) → listed all v ≡ (is_enabled_by k v && names id v)) → vs ≡ take most all)
-    → (P : Parts) (S : Plain) → IsWellTyped (view_program P) → AreSets P (slice_get S.bodies) S.tags k → vs ≡ take most (filter (names id) (all_enabled P S))
+    → (P : TypedProgram) (S : Plain) → IsWellTyped P → AreSets P (slice_get S.bodies) S.tags k → vs ≡ take most (filter (names id) (all_enabled P S))
 found_enabled k id most vs h P S typed a =
     let t = tuples_are_enabled P S k id (program_binds P typed) a in
     h (filter (names id) (all_enabled P S)) t.ascending t.members

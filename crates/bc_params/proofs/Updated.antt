@@ -4,21 +4,20 @@ use Rattle.std.specs.Prelude.{IfSome, slice_get}
 use Rattle.std.specs.List.{list_any, All}
 use Rattle.std.proofs.lemmas.Bool.{cases_Bool, cond-true, cond-false}
 use Rattle.std.proofs.lemmas.Bool.Decides.{nat_tests}
-use Rattle.bc_data.specs.Program.{Parts}
+use Rattle.bc_data.specs.Typed.{TypedParam, TypedProgram}
 use Rattle.bc_data.specs.Guard.{guard_truth}
-use Rattle.bc_data.specs.declared.program.Param.{Param}
 use Rattle.bc_data.specs.declared.run.TagRef.{TagRef}
 use Rattle.bc_data.specs.declared.run.Kind.{Kind}
 use Rattle.bc_data.specs.declared.run.Kind.TheVariants as kind
 use Rattle.bc_data.specs.declared.run.Body.{Body}
 use Rattle.bc_flags.specs.Met.{is_met}
 use Rattle.bc_mean.specs.Enabled.{is_some_and, is_class, is_instance}
-use Rattle.bc_sets.specs.declared.tag_index.Binding.{Binding}
-use Rattle.bc_sets.specs.declared.place.Place.{Place}
-use Rattle.bc_sets.specs.declared.place.TaskSets.{TaskSets}
-use Rattle.bc_sets.specs.Members.{IsRising}
-use Rattle.bc_sets.specs.Bindings.{is_bound}
-use Rattle.bc_sets.specs.Kept.{Kept, IsPlace, AreSets, is_in, fits, is_carried}
+use Rattle.bc_params_sets.specs.declared.tag_index.Binding.{Binding}
+use Rattle.bc_params_sets.specs.declared.place.Place.{Place}
+use Rattle.bc_params_sets.specs.declared.place.TaskSets.{TaskSets}
+use Rattle.bc_params_sets.specs.Members.{IsRising}
+use Rattle.bc_params_sets.specs.Bindings.{is_bound}
+use Rattle.bc_params_sets.specs.Kept.{Kept, IsPlace, AreSets, is_in, fits, is_carried}
 use Rattle.bc_params.specs.declared.places.Update.{Update}
 use Rattle.bc_params.specs.Look.{put_look, HaveOneKind, class_of, class_of_either, tags_in, is_own}
 use Rattle.bc_params.specs.Places.{Each, AtEachPlace, IsUpdated, IsRoomier, update_of, flags_of, is_of, is_met_now, KeepsSets, PlacesHaveRoom, HaveRoom, AllRise}
@@ -49,14 +48,14 @@ class_after None (Some c) h = refl
 class_after (Some b) None h = tt
 class_after (Some b) (Some c) h = ap class_of h
 
-of_class : (class : Option ℕ) (p : Param) (q : Place) (b : Body) → q.class ≡ p.class → class ≡ class_of b.kind → is_class p.class b.kind ≡ is_of class q
+of_class : (class : Option ℕ) (p : TypedParam) (q : Place) (b : Body) → q.class ≡ p.class → class ≡ class_of b.kind → is_class p.class b.kind ≡ is_of class q
 of_class class p q b e h = class_is b.kind p.class ∙ (ap (λ (c : Option ℕ). is_some_and c (λ d. p.class == d)) (sym h) ∙ ap (λ (n : ℕ). is_some_and class (λ d. n == d)) (sym e))
 
-fits_not : (class : Option ℕ) (p : Param) (q : Place) (o : Option Body) → q.class ≡ p.class → ClassIs class o → is_of class q ≡ false → fits p o ≡ false
+fits_not : (class : Option ℕ) (p : TypedParam) (q : Place) (o : Option Body) → q.class ≡ p.class → ClassIs class o → is_of class q ≡ false → fits p o ≡ false
 fits_not class p q None e h f = refl
 fits_not class p q (Some b) e h f = ap (λ (x : Bool). x && guard_truth p.guard b.flags) (of_class class p q b e h ∙ f)
 
-fits_met : (class : Option ℕ) (p : Param) (q : Place) (o : Option Body) → q.class ≡ p.class → ClassIs class o → is_of class q ≡ true
+fits_met : (class : Option ℕ) (p : TypedParam) (q : Place) (o : Option Body) → q.class ≡ p.class → ClassIs class o → is_of class q ≡ true
     → ((mask : ℕ) → mask < 2 ^ 32 → is_met q.guard mask ≡ guard_truth p.guard mask) → IfSome (flags_of o) (λ flags. flags < 2 ^ 32) → is_met_now (flags_of o) q.guard ≡ fits p o
 fits_met class p q None e h f g r = refl
 fits_met class p q (Some b) e h f g r = g b.flags r ∙ ap (λ (x : Bool). x && guard_truth p.guard b.flags) (sym (of_class class p q b e h ∙ f))
@@ -76,7 +75,7 @@ chosen_not true b m n h = absurd (cc)
 chosen_not false b m n h = refl
 
 pub updated_place : (id : ℕ) (before after : Option Body) (look : ℕ → Option Body) → look id ≡ before → HaveOneKind before after → IfSome (flags_of after) (λ flags. flags < 2 ^ 32)
-    → (p : Param) (q r : Place) → IsPlace look p q → IsUpdated (update_of id before after) q r → IsPlace (put_look id after look) p r
+    → (p : TypedParam) (q r : Place) → IsPlace look p q → IsUpdated (update_of id before after) q r → IsPlace (put_look id after look) p r
 updated_place id before after look there kinds small p q r a u = record {
   class = u.class ∙ a.class;
   guard = λ mask h. ap (λ g. is_met g mask) u.guard ∙ a.guard mask h;
@@ -97,7 +96,7 @@ updated_place id before after look there kinds small p q r a u = record {
   ];
 }
 
-pub roomier_place : (look : ℕ → Option Body) (p : Param) (q r : Place) → IsPlace look p q → IsRoomier q r → IsPlace look p r
+pub roomier_place : (look : ℕ → Option Body) (p : TypedParam) (q r : Place) → IsPlace look p q → IsRoomier q r → IsPlace look p r
 roomier_place look p q r a u = record {
   class = u.class ∙ a.class;
   guard = λ mask h. ap (λ g. is_met g mask) u.guard ∙ a.guard mask h;
@@ -148,7 +147,7 @@ updated_bound types id before after look old middle new c there h m n =
           (own_body types id c after) (ap (carry types c) (cond-false (c.object == id) after (look c.object) s) ∙ sym h)
     ])
 
-pub updated_sets : (P : Parts) (types : List ℕ) (id : ℕ) (before after : Option Body) (look : ℕ → Option Body) (k : Kept) (tasks : List TaskSets) (middle new : List Binding)
+pub updated_sets : (P : TypedProgram) (types : List ℕ) (id : ℕ) (before after : Option Body) (look : ℕ → Option Body) (k : Kept) (tasks : List TaskSets) (middle new : List Binding)
     → look id ≡ before → HaveOneKind before after → IfSome (flags_of after) (λ flags. flags < 2 ^ 32) → AreSets P look types k
     → Each (AtEachPlace (IsUpdated (update_of id before after))) k.tasks tasks
     → ((c : Binding) → is_bound middle c ≡ (is_bound k.bound c && not (is_own types id (tags_in before) c)))

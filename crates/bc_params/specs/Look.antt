@@ -6,7 +6,7 @@ use Rattle.bc_data.specs.declared.run.Kind.{Kind}
 use Rattle.bc_data.specs.declared.run.Kind.TheVariants as kind
 use Rattle.bc_data.specs.declared.run.Body.{Body}
 use Rattle.bc_mean.specs.Enabled.{is_some_and, is_instance}
-use Rattle.bc_sets.specs.declared.tag_index.Binding.{Binding}
+use Rattle.bc_params_sets.specs.declared.tag_index.Binding.{Binding}
 
 -- the same bodies, but for one object
 abbrev pub put_look : ℕ → Option Body → (ℕ → Option Body) → ℕ → Option Body

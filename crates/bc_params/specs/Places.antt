@@ -1,17 +1,16 @@
 -- Places whose sets are updated, and the room in them.
 use Rattle.std.specs.Prelude.{◌≡◌, ℕ, ◌+◌, ◌*◌, ◌<◌, ◌≤◌, Bool, if◌then◌else◌, ◌&&◌, ◌==◌, List, length, count_by, sum_by, slice_index_or, All, Option, Some, None}
-use Rattle.bc_data.specs.Program.{Parts}
-use Rattle.bc_data.specs.declared.program.Task.{Task}
+use Rattle.bc_data.specs.Typed.{TypedProgram, TypedTask}
 use Rattle.bc_data.specs.declared.run.Body.{Body}
 use Rattle.bc_data.specs.declared.run.Changes.{Changes}
 use Rattle.bc_flags.specs.declared.guard.Form.{Form}
 use Rattle.bc_flags.specs.Met.{is_met}
 use Rattle.bc_mean.specs.Enabled.{is_some_and}
-use Rattle.bc_sets.specs.declared.place.Place.{Place}
-use Rattle.bc_sets.specs.declared.place.TaskSets.{TaskSets}
-use Rattle.bc_sets.specs.Members.{IsRising}
-use Rattle.bc_sets.specs.Kept.{Kept, AreSets, is_in}
-use Rattle.bc_tuples.specs.Tuples.{AreFew, IsBound}
+use Rattle.bc_params_sets.specs.declared.place.Place.{Place}
+use Rattle.bc_params_sets.specs.declared.place.TaskSets.{TaskSets}
+use Rattle.bc_params_sets.specs.Members.{IsRising}
+use Rattle.bc_params_sets.specs.Kept.{Kept, AreSets, is_in}
+use Rattle.bc_params_search.specs.Tuples.{AreFew, IsBound}
 use Rattle.bc_params.specs.declared.places.Update.{Update}
 use Rattle.bc_params.specs.Look.{class_of_either}
 
@@ -77,8 +76,8 @@ abbrev pub places_of : Option ℕ → List TaskSets → ℕ
 places_of class ts = sum_by (λ t. count_by (is_of class) t.places) ts
 
 -- how many parameters there are of a class
-abbrev pub params_of : Option ℕ → List Task → ℕ
-params_of class ts = sum_by (λ t. count_by (λ p. is_some_and class (λ c. p.class == c)) t.params.items) ts
+abbrev pub params_of : Option ℕ → List TypedTask → ℕ
+params_of class ts = sum_by (λ t. count_by (λ p. is_some_and class (λ c. p.class == c)) t.params) ts
 
 abbrev pub PlacesHaveRoom : ℕ → List Place → Type 0
 PlacesHaveRoom n qs = All (λ q. n ≤ q.objects.spare) qs
@@ -107,7 +106,7 @@ pub record KeepsSpare (old new : Spare) : Type 0 where
 
 -- what the sets are of stays so
 abbrev pub KeepsSets : Kept → Kept → Type 0
-KeepsSets old new = (P : Parts) (look : ℕ → Option Body) (types : List ℕ) → AreSets P look types old → AreSets P look types new
+KeepsSets old new = (P : TypedProgram) (look : ℕ → Option Body) (types : List ℕ) → AreSets P look types old → AreSets P look types new
 
 -- what a search asks of the tasks: they are few and small, and each variable is bound
 pub record IsSearchable (ts : List TaskSets) : Type 0 where

@@ -2,12 +2,12 @@
 
 ghost use Rattle.std.specs.Prelude.{◌≡◌, ◌+◌, ◌≤◌, ◌&&◌, ◌||◌, not, ◌++◌, length, slice_get, option_copied};
 ghost use Rattle.bc_mean.specs.Enabled.{is_some_and};
-ghost use Rattle.bc_sets.specs.declared.tag_index.Binding.{Binding};
-ghost use Rattle.bc_sets.specs.Bindings.{same_binding, is_bound};
+ghost use Rattle.bc_params_sets.specs.declared.tag_index.Binding.{Binding};
+ghost use Rattle.bc_params_sets.specs.Bindings.{same_binding, is_bound};
 ghost use Rattle.bc_params.specs.Look.{tags_in, is_binding_of, is_own};
 
 use bc_data::run::{Body, TagRef};
-use bc_sets::tag_index::{Binding, TagIndex};
+use bc_params_sets::tag_index::{Binding, TagIndex};
 
 /// The type of an instance, if it is there.
 fn type_of(types: &[u32], made: &[u32], instance: u32) -> Option<u32>

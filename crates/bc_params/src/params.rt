@@ -1,15 +1,14 @@
 // The parameter sets of a store.
 
 ghost use Rattle.std.specs.Prelude.{◌≡◌, ℕ, ◌+◌, ◌<◌, ◌≤◌, ◌++◌, List as Sequence, length, take, filter, option_copied, Option, None, IfOk, OnOk};
-ghost use Rattle.bc_data.specs.Program.{Parts};
-ghost use Rattle.bc_data.specs.ProgramView.{view_program};
+ghost use Rattle.bc_data.specs.Typed.{TypedProgram};
 ghost use Rattle.bc_data.specs.WellTyped.{IsWellTyped};
 ghost use Rattle.bc_data.specs.declared.run.Body.{Body};
 ghost use Rattle.bc_mean.specs.declared.plain.Plain.{Plain};
 ghost use Rattle.bc_mean.specs.Enabled.{all_enabled};
 ghost use Rattle.bc_mean.specs.Work.{look_of};
-ghost use Rattle.bc_sets.specs.Kept.{AreSets};
-ghost use Rattle.bc_tuples.specs.Tuples.{names};
+ghost use Rattle.bc_params_sets.specs.Kept.{AreSets};
+ghost use Rattle.bc_params_search.specs.Tuples.{names};
 ghost use Rattle.bc_params.specs.Look.{nobody, put_look, HaveOneKind, class_of_either, tags_in};
 ghost use Rattle.bc_params.specs.Places.{places_of, AllRise, HasSpare, KeepsSpare, KeepsSets};
 
@@ -20,11 +19,11 @@ use crate::room::{bindings_for, reserve_tasks, updates_for};
 use bc_data::list::List;
 use bc_data::program::Program;
 use bc_data::run::{Body, Changes, Invocation};
-use bc_sets::place::TaskSets;
-use bc_sets::tag_index::TagIndex;
+use bc_params_search::tuples_with;
+use bc_params_sets::place::TaskSets;
+use bc_params_sets::tag_index::TagIndex;
 use bc_steps::Steps;
 use bc_store::store::Store;
-use bc_tuples::tuples_with;
 use std::alloc::{AllocError, Global};
 use std::marker::{Brand, Model};
 use std::sync::ledger::{Blank, Ledger};
@@ -83,7 +82,7 @@ impl Params {
         requires name { blank.name ≡ L.name }
         requires parts { blank.parts ≡ L.parts }
         requires some { 0 < L.parts }
-        ensures { OnOk result ((P : Parts) → AreSets P nobody store.now.plain.tags self.old.kept → AreSets P (look_of store.now.plain) store.now.plain.tags self.new.kept) }
+        ensures { OnOk result ((P : TypedProgram) → AreSets P nobody store.now.plain.tags self.old.kept → AreSets P (look_of store.now.plain) store.now.plain.tags self.new.kept) }
     {
         let mut steps = Steps::<L>::new(blank);
         for id in 0..store.objects() {
@@ -100,7 +99,7 @@ impl Params {
         steps: &mut Steps<L>,
     ) -> Result<(), AllocError>
         requires { id < length store.now.plain.bodies }
-        ensures { OnOk result ((P : Parts) (look : ℕ → Option Body) → look id ≡ None → AreSets P look store.now.plain.tags self.old.kept
+        ensures { OnOk result ((P : TypedProgram) (look : ℕ → Option Body) → look id ≡ None → AreSets P look store.now.plain.tags self.old.kept
             → AreSets P (put_look id (look_of store.now.plain id) look) store.now.plain.tags self.new.kept) }
     {
         let body = store.body(id);
@@ -131,7 +130,7 @@ impl Params {
         id: u32,
         most: usize,
     ) -> Result<List<Invocation>, AllocError>
-        ensures { IfOk result (λ vs. (P : Parts) (S : Plain) → IsWellTyped (view_program P) → AreSets P (look_of S) S.tags self.now.kept
+        ensures { IfOk result (λ vs. (P : TypedProgram) (S : Plain) → IsWellTyped P → AreSets P (look_of S) S.tags self.now.kept
             → vs ≡ take most (filter (names id) (all_enabled P S))) }
     {
         tuples_with(alloc, self.tasks.as_slice(), &self.tags, id, most)
@@ -179,7 +178,7 @@ impl Params {
     )
         requires updates { 1 ≤ self.old.spare.updates }
         requires bindings { length (tags_in (option_copied after)) ≤ self.old.spare.bindings }
-        ensures sets { (P : Parts) (look : ℕ → Option Body) → look id ≡ option_copied before.entry → HaveOneKind (option_copied before.entry) (option_copied after.entry)
+        ensures sets { (P : TypedProgram) (look : ℕ → Option Body) → look id ≡ option_copied before.entry → HaveOneKind (option_copied before.entry) (option_copied after.entry)
             → AreSets P look (types.now ++ made.now) self.old.kept → AreSets P (put_look id (option_copied after.entry) look) (types.now ++ made.now) self.new.kept }
         ensures steps { steps.new ≤ steps.old + places_of (class_of_either (option_copied before.entry) (option_copied after.entry)) self.old.kept.tasks }
         ensures updates { self.old.spare.updates ≤ self.new.spare.updates + 1 }

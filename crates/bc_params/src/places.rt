@@ -7,7 +7,7 @@ ghost use Rattle.bc_params.specs.Places.{flags_of, update_of, is_of, is_met_now,
 use bc_data::list::List;
 use bc_data::run::{Body, Kind};
 use bc_flags::guard::Guard;
-use bc_sets::place::{Place, TaskSets};
+use bc_params_sets::place::{Place, TaskSets};
 use bc_steps::Steps;
 use std::sync::ledger::Ledger;
 

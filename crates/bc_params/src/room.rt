@@ -5,7 +5,7 @@ ghost use Rattle.bc_params.specs.Places.{Each, IsRoomier, AtEachPlace, PlacesHav
 
 use bc_data::list::List;
 use bc_data::run::{Body, Changes, Written};
-use bc_sets::place::{Place, TaskSets};
+use bc_params_sets::place::{Place, TaskSets};
 use std::alloc::AllocError;
 
 /// The most tags that an object of a store has.

@@ -8,8 +8,8 @@ use Rattle.bc_data.specs.declared.token.Sign.TheVariants as sign
 use Rattle.bc_data.specs.declared.token.Token.{Token}
 use Rattle.bc_data.specs.declared.token.TokenKind.{TokenKind}
 use Rattle.bc_data.specs.declared.token.TokenKind.TheVariants as token_kind
-use Rattle.bc_grammar.specs.Machine.{Stack, Guarded, InFlagTwo, InFlagGroup, State, Never, OnMark, OnWord, WantFlag, AfterFlag, Step, No, On, levels, run, follow, settle_flag, flag_reach, FlagRoom, kind_at, same_mark, same_word, Refused, TooDeep}
-use Rattle.bc_grammar.proofs.Steps.{push_flag_two, blocked_flag_two, end_flag_two}
+use Rattle.bc_law_grammar.specs.Machine.{Stack, Guarded, InFlagTwo, InFlagGroup, State, Never, OnMark, OnWord, WantFlag, AfterFlag, Step, No, On, levels, run, follow, settle_flag, flag_reach, FlagRoom, kind_at, same_mark, same_word, Refused, TooDeep}
+use Rattle.bc_law_grammar.proofs.Steps.{push_flag_two, blocked_flag_two, end_flag_two}
 use Rattle.bc_parse_expr.specs.Contract.{first_kind}
 use Rattle.bc_parse.specs.Guards.{flag_reach_of}
 

@@ -3,7 +3,7 @@ use Rattle.std.specs.Prelude.{◌≡◌, ℕ, ◌+◌, ◌≤◌, List, []}
 use Rattle.bc_data.specs.Seen.{lexeme}
 use Rattle.bc_data.specs.SourceTree.{Guard, guard_height}
 use Rattle.bc_data.specs.declared.token.Token.{Token}
-use Rattle.bc_grammar.specs.Machine.{flag_reach}
+use Rattle.bc_law_grammar.specs.Machine.{flag_reach}
 use Rattle.bc_parse_expr.specs.Contract.{first_kind}
 use Rattle.bc_data.specs.SourceTree.{GuardOp, AndOp, OrOp}
 use Rattle.bc_parse.specs.declared.guard.Join.{Join}

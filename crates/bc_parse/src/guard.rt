@@ -1,15 +1,15 @@
 // Guards, by recursive descent. `base` is the number of levels that are open around.
 
 ghost use Rattle.std.specs.Prelude.{◌≡◌, ℕ, ◌+◌, ◌≤◌, ◌<◌, Bool, List, [], ◌∷◌, length, IfOk, IfErr, IfSome, IfNone};
-ghost use Rattle.bc_data.specs.Seen.{Keyword, seen};
+ghost use Rattle.bc_data.specs.Seen.{Keyword};
 ghost use Rattle.bc_data.specs.SourceTree.{Guard, FlagTwo, guard_height};
 ghost use Rattle.bc_data.specs.Grammar.{guard_looseness, guard_word};
 ghost use Rattle.bc_data.specs.View.{view_guard};
 ghost use Rattle.bc_data.specs.declared.token.TokenKind.TheVariants as token_kind;
 ghost use Rattle.bc_data.specs.declared.token.Word.TheVariants as word;
 ghost use Rattle.bc_data.specs.declared.token.Sign.TheVariants as sign;
-ghost use Rattle.bc_grammar.specs.Machine.{Stack, WantFlag, AfterFlag, levels, run, FlagRoom};
-ghost use Rattle.bc_parse_expr.specs.Contract.{Answers, Stops, first_kind};
+ghost use Rattle.bc_law_grammar.specs.Machine.{Stack, WantFlag, AfterFlag, levels, FlagRoom};
+ghost use Rattle.bc_parse_expr.specs.Contract.{Stops, first_kind, Reads};
 ghost use Rattle.bc_parse.specs.Guards.{flag_reach_of, IsGuardMeasured, join_of};
 ghost use Rattle.bc_parse_expr.specs.declared.cursor.Fault.TheVariants.{Memory};
 
@@ -74,7 +74,7 @@ fn joined(alloc: Global, join: Join, left: FlagText, right: FlagText) -> Result<
 
 /// A guard whose operators bind at most as loosely as `loosest`: 3 is any guard.
 #[cycle(guard)]
-#[tactic(auto, using(bc_grammar::proofs::Forward::flag_room_down))]
+#[tactic(auto, using(bc_law_grammar::proofs::Forward::flag_room_down))]
 pub fn guard<'a>(
     alloc: Global,
     text: &[u8],
@@ -85,7 +85,8 @@ pub fn guard<'a>(
     requires base { base ≤ 64 }
     requires loosest { (1 ≤ loosest) × (loosest ≤ 3) }
     ensures answers { (st : Stack) → levels st ≡ base → FlagRoom loosest st →
-        Answers result (λ x. run 64 (AfterFlag (view_guard x.tree) st) (seen text.now x.rest.now)) (run 64 (WantFlag st) (seen text.now tokens.now)) }
+        Reads text.now result (WantFlag st) tokens.now
+        (λ x. AfterFlag (view_guard x.tree) st) (λ x. x.rest.now) }
     ensures whole { IfOk result (λ x. loosest < flag_reach_of x.rest.now) }
     ensures height { IfOk result (λ x. IsGuardMeasured base x.height (view_guard x.tree)) }
     ensures shorter { IfOk result (λ x. length x.rest.now < length tokens.now) }
@@ -113,7 +114,8 @@ fn with_join<'a>(
     requires join { first_kind left.rest.now ≡ token_kind.Keyword (guard_word (join_of join)) }
     requires height { IsGuardMeasured base left.height (view_guard left.tree) }
     ensures answers { (st : Stack) → levels st ≡ base → FlagRoom (guard_looseness (join_of join)) st →
-        Answers result (λ x. run 64 (AfterFlag (view_guard x.tree) st) (seen text.now x.rest.now)) (run 64 (AfterFlag (view_guard left.entry.tree) st) (seen text.now left.entry.rest.now)) }
+        Reads text.now result (AfterFlag (view_guard left.entry.tree) st) left.entry.rest.now
+        (λ x. AfterFlag (view_guard x.tree) st) (λ x. x.rest.now) }
     ensures height { IfOk result (λ x. IsGuardMeasured base x.height (view_guard x.tree)) }
     ensures shorter { IfOk result (λ x. length x.rest.now < length left.entry.rest.now) }
 {
@@ -136,7 +138,8 @@ fn single<'a>(
 ) -> Result<GuardRead<'a>, Fault>
     requires base { base ≤ 64 }
     ensures answers { (st : Stack) → levels st ≡ base → FlagRoom 1 st →
-        Answers result (λ x. run 64 (AfterFlag (view_guard x.tree) st) (seen text.now x.rest.now)) (run 64 (WantFlag st) (seen text.now tokens.now)) }
+        Reads text.now result (WantFlag st) tokens.now
+        (λ x. AfterFlag (view_guard x.tree) st) (λ x. x.rest.now) }
     ensures height { IfOk result (λ x. IsGuardMeasured base x.height (view_guard x.tree)) }
     ensures shorter { IfOk result (λ x. length x.rest.now < length tokens.now) }
 {
@@ -165,7 +168,7 @@ fn flag_leaf(tree: FlagText, rest: &[Token]) -> GuardRead<'_>
 }
 
 #[cycle(guard)]
-#[tactic(auto, using(bc_grammar::proofs::Steps::end_flag_not))]
+#[tactic(auto, using(bc_law_grammar::proofs::Steps::end_flag_not))]
 fn negated<'a>(
     alloc: Global,
     text: &[u8],
@@ -176,7 +179,8 @@ fn negated<'a>(
     requires base { base ≤ 64 }
     requires bang { token.kind ≡ token_kind.Mark sign.Bang }
     ensures answers { (st : Stack) → levels st ≡ base →
-        Answers result (λ x. run 64 (AfterFlag (view_guard x.tree) st) (seen text.now x.rest.now)) (run 64 (WantFlag st) (seen text.now (token ∷ tokens.now))) }
+        Reads text.now result (WantFlag st) (token ∷ tokens.now)
+        (λ x. AfterFlag (view_guard x.tree) st) (λ x. x.rest.now) }
     ensures height { IfOk result (λ x. IsGuardMeasured base x.height (view_guard x.tree)) }
     ensures shorter { IfOk result (λ x. length x.rest.now < length tokens.now) }
 {
@@ -201,7 +205,8 @@ fn group<'a>(
     requires base { base ≤ 64 }
     requires paren { token.kind ≡ token_kind.Mark sign.OpenParen }
     ensures answers { (st : Stack) → levels st ≡ base →
-        Answers result (λ x. run 64 (AfterFlag (view_guard x.tree) st) (seen text.now x.rest.now)) (run 64 (WantFlag st) (seen text.now (token ∷ tokens.now))) }
+        Reads text.now result (WantFlag st) (token ∷ tokens.now)
+        (λ x. AfterFlag (view_guard x.tree) st) (λ x. x.rest.now) }
     ensures height { IfOk result (λ x. IsGuardMeasured base x.height (view_guard x.tree)) }
     ensures shorter { IfOk result (λ x. length x.rest.now < length tokens.now) }
 {

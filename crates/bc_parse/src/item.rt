@@ -11,8 +11,8 @@ ghost use Rattle.bc_data.specs.declared.tree.Bind.{Bind};
 ghost use Rattle.bc_data.specs.declared.token.TokenKind.TheVariants as token_kind;
 ghost use Rattle.bc_data.specs.declared.token.Word.TheVariants as word;
 ghost use Rattle.bc_data.specs.declared.token.Sign.TheVariants as sign;
-ghost use Rattle.bc_grammar.specs.Machine.{State, Never, OnMark, OnWord, Declaring, Parameters, Binding, Members, Items, Done, Accepted, run, brackets, formal_row, code_row, member_row, flag_row, void_row, maker_row, tag_type_row, class_row, task_row};
-ghost use Rattle.bc_parse_expr.specs.Contract.{Answers, Stops, first_kind};
+ghost use Rattle.bc_law_grammar.specs.Machine.{State, Never, OnMark, OnWord, Declaring, Parameters, Binding, Members, Items, Done, Accepted, run, brackets, formal_row, code_row, member_row, flag_row, void_row, maker_row, tag_type_row, class_row, task_row};
+ghost use Rattle.bc_parse_expr.specs.Contract.{Answers, Stops, first_kind, Reads};
 
 use crate::guard::guard;
 use bc_data::run::Place;
@@ -100,7 +100,9 @@ fn formal_of<'a>(
     tokens: &'a [Token],
 ) -> Result<FormalRead<'a>, Fault>
     ensures answers { (formals : Sequence Formal) (onward : Sequence Formal → State) →
-        Answers result (λ r. run 64 (OnMark sign.CloseParen (λ _. onward (More formals r.formal)) (OnMark sign.Comma (λ _. Declaring (More formals r.formal) onward) Never)) (seen text.now r.rest.now)) (run 64 (formal_row kind formals onward) (seen text.now tokens.now)) }
+        Reads text.now result (formal_row kind formals onward) tokens.now
+        (λ r. OnMark sign.CloseParen (λ _. onward (More formals r.formal))
+        (OnMark sign.Comma (λ _. Declaring (More formals r.formal) onward) Never)) (λ r. r.rest.now) }
     ensures shorter { IfOk result (λ r. length r.rest.now < length tokens.now) }
 {
     let name = expect_name(alloc, text, tokens)?;
@@ -121,7 +123,9 @@ fn formal_behind<'a>(
     tokens: &'a [Token],
 ) -> Result<FormalRead<'a>, Fault>
     ensures answers { (formals : Sequence Formal) (onward : Sequence Formal → State) →
-        Answers result (λ r. run 64 (OnMark sign.CloseParen (λ _. onward (More formals r.formal)) (OnMark sign.Comma (λ _. Declaring (More formals r.formal) onward) Never)) (seen text.now r.rest.now)) (run 64 (brackets base at (λ kind. formal_row kind formals onward)) (seen text.now tokens.now)) }
+        Reads text.now result (brackets base at (λ kind. formal_row kind formals onward)) tokens.now
+        (λ r. OnMark sign.CloseParen (λ _. onward (More formals r.formal))
+        (OnMark sign.Comma (λ _. Declaring (More formals r.formal) onward) Never)) (λ r. r.rest.now) }
     ensures shorter { IfOk result (λ r. length r.rest.now < length tokens.now) }
 {
     let read = type_behind(base, at, tokens)?;
@@ -130,7 +134,9 @@ fn formal_behind<'a>(
 
 fn formal<'a>(alloc: Global, text: &[u8], tokens: &'a [Token]) -> Result<FormalRead<'a>, Fault>
     ensures answers { (formals : Sequence Formal) (onward : Sequence Formal → State) →
-        Answers result (λ r. run 64 (OnMark sign.CloseParen (λ _. onward (More formals r.formal)) (OnMark sign.Comma (λ _. Declaring (More formals r.formal) onward) Never)) (seen text.now r.rest.now)) (run 64 (Declaring formals onward) (seen text.now tokens.now)) }
+        Reads text.now result (Declaring formals onward) tokens.now
+        (λ r. OnMark sign.CloseParen (λ _. onward (More formals r.formal))
+        (OnMark sign.Comma (λ _. Declaring (More formals r.formal) onward) Never)) (λ r. r.rest.now) }
     ensures shorter { IfOk result (λ r. length r.rest.now < length tokens.now) }
 {
     let (token, behind) = next(tokens)?;
@@ -149,7 +155,8 @@ fn formal<'a>(alloc: Global, text: &[u8], tokens: &'a [Token]) -> Result<FormalR
 #[tactic(auto, using(bc_parse_expr::proofs::Rows::onto_push))]
 fn formals<'a>(alloc: Global, text: &[u8], tokens: &'a [Token]) -> Result<FormalList<'a>, Fault>
     ensures answers { (onward : Sequence Formal → State) →
-        Answers result (λ r. run 64 (onward (onto r.list.items Empty)) (seen text.now r.rest.now)) (run 64 (Declaring Empty onward) (seen text.now tokens.now)) }
+        Reads text.now result (Declaring Empty onward) tokens.now
+        (λ r. onward (onto r.list.items Empty)) (λ r. r.rest.now) }
     ensures shorter { IfOk result (λ r. length r.rest.now < length tokens.now) }
 {
     let mut read = FormalList {
@@ -175,7 +182,8 @@ fn formals<'a>(alloc: Global, text: &[u8], tokens: &'a [Token]) -> Result<Formal
 // The formals and the body, behind the `(`.
 fn code<'a>(alloc: Global, text: &[u8], tokens: &'a [Token]) -> Result<CodeRead<'a>, Fault>
     ensures answers { (onward : Sequence Formal → Statements → State) →
-        Answers result (λ r. run 64 (onward (onto r.formals.items Empty) (stat_views r.body.items Nothing)) (seen text.now r.rest.now)) (run 64 (code_row onward) (seen text.now tokens.now)) }
+        Reads text.now result (code_row onward) tokens.now
+        (λ r. onward (onto r.formals.items Empty) (stat_views r.body.items Nothing)) (λ r. r.rest.now) }
     ensures shorter { IfOk result (λ r. length r.rest.now < length tokens.now) }
 {
     match accept(tokens, Sign::CloseParen) {
@@ -207,7 +215,8 @@ fn typed_member<'a>(
     tokens: &'a [Token],
 ) -> Result<MemberRead<'a>, Fault>
     ensures answers { (members : Sequence source.Member) (onward : Sequence source.Member → State) →
-        Answers result (λ r. run 64 (Members (More members (view_member r.member)) onward) (seen text.now r.rest.now)) (run 64 (member_row kind members onward) (seen text.now tokens.now)) }
+        Reads text.now result (member_row kind members onward) tokens.now
+        (λ r. Members (More members (view_member r.member)) onward) (λ r. r.rest.now) }
     ensures shorter { IfOk result (λ r. length r.rest.now < length tokens.now) }
 {
     let name = expect_name(alloc, text, tokens)?;
@@ -243,7 +252,8 @@ fn member_behind<'a>(
     tokens: &'a [Token],
 ) -> Result<MemberRead<'a>, Fault>
     ensures answers { (members : Sequence source.Member) (onward : Sequence source.Member → State) →
-        Answers result (λ r. run 64 (Members (More members (view_member r.member)) onward) (seen text.now r.rest.now)) (run 64 (brackets base at (λ kind. member_row kind members onward)) (seen text.now tokens.now)) }
+        Reads text.now result (brackets base at (λ kind. member_row kind members onward)) tokens.now
+        (λ r. Members (More members (view_member r.member)) onward) (λ r. r.rest.now) }
     ensures shorter { IfOk result (λ r. length r.rest.now < length tokens.now) }
 {
     let read = type_behind(base, at, tokens)?;
@@ -253,7 +263,8 @@ fn member_behind<'a>(
 // A flag, behind its keyword.
 fn flag_member<'a>(alloc: Global, text: &[u8], tokens: &'a [Token]) -> Result<MemberRead<'a>, Fault>
     ensures answers { (members : Sequence source.Member) (onward : Sequence source.Member → State) →
-        Answers result (λ r. run 64 (Members (More members (view_member r.member)) onward) (seen text.now r.rest.now)) (run 64 (flag_row members onward) (seen text.now tokens.now)) }
+        Reads text.now result (flag_row members onward) tokens.now
+        (λ r. Members (More members (view_member r.member)) onward) (λ r. r.rest.now) }
     ensures shorter { IfOk result (λ r. length r.rest.now < length tokens.now) }
 {
     let name = expect_name(alloc, text, tokens)?;
@@ -267,7 +278,8 @@ fn flag_member<'a>(alloc: Global, text: &[u8], tokens: &'a [Token]) -> Result<Me
 // A method without result, behind `void`.
 fn void_member<'a>(alloc: Global, text: &[u8], tokens: &'a [Token]) -> Result<MemberRead<'a>, Fault>
     ensures answers { (members : Sequence source.Member) (onward : Sequence source.Member → State) →
-        Answers result (λ r. run 64 (Members (More members (view_member r.member)) onward) (seen text.now r.rest.now)) (run 64 (void_row members onward) (seen text.now tokens.now)) }
+        Reads text.now result (void_row members onward) tokens.now
+        (λ r. Members (More members (view_member r.member)) onward) (λ r. r.rest.now) }
     ensures shorter { IfOk result (λ r. length r.rest.now < length tokens.now) }
 {
     let name = expect_name(alloc, text, tokens)?;
@@ -292,7 +304,8 @@ fn named_member<'a>(
     tokens: &'a [Token],
 ) -> Result<MemberRead<'a>, Fault>
     ensures answers { (members : Sequence source.Member) (onward : Sequence source.Member → State) →
-        Answers result (λ r. run 64 (Members (More members (view_member r.member)) onward) (seen text.now r.rest.now)) (run 64 (maker_row name members onward) (seen text.now tokens.now)) }
+        Reads text.now result (maker_row name members onward) tokens.now
+        (λ r. Members (More members (view_member r.member)) onward) (λ r. r.rest.now) }
     ensures shorter { IfOk result (λ r. length r.rest.now < length tokens.now) }
 {
     match accept(tokens, Sign::OpenParen) {
@@ -315,7 +328,8 @@ fn named_member<'a>(
 fn member<'a>(alloc: Global, text: &[u8], tokens: &'a [Token]) -> Result<MemberRead<'a>, Fault>
     requires brace { first_kind tokens.now ≡ token_kind.Mark sign.CloseBrace → ⊥ }
     ensures answers { (members : Sequence source.Member) (onward : Sequence source.Member → State) →
-        Answers result (λ r. run 64 (Members (More members (view_member r.member)) onward) (seen text.now r.rest.now)) (run 64 (Members members onward) (seen text.now tokens.now)) }
+        Reads text.now result (Members members onward) tokens.now
+        (λ r. Members (More members (view_member r.member)) onward) (λ r. r.rest.now) }
     ensures shorter { IfOk result (λ r. length r.rest.now < length tokens.now) }
 {
     let (token, behind) = next(tokens)?;
@@ -338,7 +352,8 @@ fn member<'a>(alloc: Global, text: &[u8], tokens: &'a [Token]) -> Result<MemberR
 // The tokens behind the `}` of a class, if it comes next.
 fn class_end(tokens: &[Token]) -> Option<Behind<'_>>
     ensures some { (text : List ℕ) (members : Sequence source.Member) (onward : Sequence source.Member → State) →
-        IfSome result (λ r. run 64 (Members members onward) (seen text tokens.now) ≡ run 64 (onward members) (seen text r.rest.now)) }
+        IfSome result (λ r. run 64 (Members members onward) (seen text tokens.now)
+        ≡ run 64 (onward members) (seen text r.rest.now)) }
     ensures none { IfNone result (first_kind tokens.now ≡ token_kind.Mark sign.CloseBrace → ⊥) }
     ensures shorter { IfSome result (λ r. length r.rest.now < length tokens.now) }
 {
@@ -355,7 +370,8 @@ fn class_end(tokens: &[Token]) -> Option<Behind<'_>>
 #[tactic(auto, using(crate::proofs::Sequences::members_push))]
 fn members<'a>(alloc: Global, text: &[u8], tokens: &'a [Token]) -> Result<MemberList<'a>, Fault>
     ensures answers { (onward : Sequence source.Member → State) →
-        Answers result (λ r. run 64 (onward (onto_by view_member r.list.items Empty)) (seen text.now r.rest.now)) (run 64 (Members Empty onward) (seen text.now tokens.now)) }
+        Reads text.now result (Members Empty onward) tokens.now
+        (λ r. onward (onto_by view_member r.list.items Empty)) (λ r. r.rest.now) }
     ensures shorter { IfOk result (λ r. length r.rest.now < length tokens.now) }
 {
     let mut read = MemberList {
@@ -381,7 +397,8 @@ fn members<'a>(alloc: Global, text: &[u8], tokens: &'a [Token]) -> Result<Member
 #[tactic(auto, using(bc_parse_expr::proofs::Rows::onto_push))]
 fn binds<'a>(alloc: Global, text: &[u8], tokens: &'a [Token]) -> Result<BindList<'a>, Fault>
     ensures answers { (more last : Sequence Bind → State) →
-        Answers result (λ r. run 64 (if r.is_last then last (onto r.list.items Empty) else more (onto r.list.items Empty)) (seen text.now r.rest.now)) (run 64 (Binding Empty more last) (seen text.now tokens.now)) }
+        Reads text.now result (Binding Empty more last) tokens.now
+        (λ r. if r.is_last then last (onto r.list.items Empty) else more (onto r.list.items Empty)) (λ r. r.rest.now) }
     ensures shorter { IfOk result (λ r. length r.rest.now < length tokens.now) }
 {
     let mut read = BindList {
@@ -417,8 +434,9 @@ fn binds<'a>(alloc: Global, text: &[u8], tokens: &'a [Token]) -> Result<BindList
 // What follows the guard of a parameter.
 fn bound<'a>(alloc: Global, text: &[u8], tokens: &'a [Token]) -> Result<BindList<'a>, Fault>
     ensures answers { (many : Sequence Bind → State) (all : Sequence Bind → State) →
-        Answers result (λ r. run 64 (if r.is_last then all (onto r.list.items Empty) else many (onto r.list.items Empty)) (seen text.now r.rest.now))
-        (run 64 (OnMark sign.CloseParen (λ _. all Empty) (OnMark sign.Comma (λ _. many Empty) (OnWord word.With (λ _. Binding Empty many all) Never))) (seen text.now tokens.now)) }
+        Reads text.now result (OnMark sign.CloseParen (λ _. all Empty)
+        (OnMark sign.Comma (λ _. many Empty) (OnWord word.With (λ _. Binding Empty many all) Never))) tokens.now
+        (λ r. if r.is_last then all (onto r.list.items Empty) else many (onto r.list.items Empty)) (λ r. r.rest.now) }
     ensures shorter { IfOk result (λ r. length r.rest.now < length tokens.now) }
 {
     if let Some(close) = accept(tokens, Sign::CloseParen) {
@@ -443,7 +461,9 @@ fn bound<'a>(alloc: Global, text: &[u8], tokens: &'a [Token]) -> Result<BindList
 #[tactic(auto, using(crate::proofs::Flags::guarded_end))]
 fn param<'a>(alloc: Global, text: &[u8], tokens: &'a [Token]) -> Result<ParamRead<'a>, Fault>
     ensures answers { (params : Sequence Param) (onward : Sequence Param → State) →
-        Answers result (λ r. run 64 (if r.is_last then onward (More params (view_param r.param)) else Parameters (More params (view_param r.param)) onward) (seen text.now r.rest.now)) (run 64 (Parameters params onward) (seen text.now tokens.now)) }
+        Reads text.now result (Parameters params onward) tokens.now
+        (λ r. if r.is_last then onward (More params (view_param r.param))
+        else Parameters (More params (view_param r.param)) onward) (λ r. r.rest.now) }
     ensures shorter { IfOk result (λ r. length r.rest.now < length tokens.now) }
 {
     let (token, behind) = next(tokens)?;
@@ -471,7 +491,8 @@ fn param<'a>(alloc: Global, text: &[u8], tokens: &'a [Token]) -> Result<ParamRea
 #[tactic(auto, using(crate::proofs::Sequences::params_push))]
 fn params<'a>(alloc: Global, text: &[u8], tokens: &'a [Token]) -> Result<ParamList<'a>, Fault>
     ensures answers { (onward : Sequence Param → State) →
-        Answers result (λ r. run 64 (onward (onto_by view_param r.list.items Empty)) (seen text.now r.rest.now)) (run 64 (Parameters Empty onward) (seen text.now tokens.now)) }
+        Reads text.now result (Parameters Empty onward) tokens.now
+        (λ r. onward (onto_by view_param r.list.items Empty)) (λ r. r.rest.now) }
     ensures shorter { IfOk result (λ r. length r.rest.now < length tokens.now) }
 {
     let mut read = ParamList {
@@ -495,7 +516,8 @@ fn task_item<'a>(
     tokens: &'a [Token],
 ) -> Result<ItemRead<'a>, Fault>
     ensures answers { (items : Sequence source.Item) →
-        Answers result (λ r. run 64 (Items (More items (view_text_item r.item))) (seen text.now r.rest.now)) (run 64 (task_row at items) (seen text.now tokens.now)) }
+        Reads text.now result (task_row at items) tokens.now
+        (λ r. Items (More items (view_text_item r.item))) (λ r. r.rest.now) }
     ensures shorter { IfOk result (λ r. length r.rest.now < length tokens.now) }
 {
     let name = expect_name(alloc, text, tokens)?;
@@ -515,7 +537,8 @@ fn task_item<'a>(
 
 fn class_item<'a>(alloc: Global, text: &[u8], tokens: &'a [Token]) -> Result<ItemRead<'a>, Fault>
     ensures answers { (items : Sequence source.Item) →
-        Answers result (λ r. run 64 (Items (More items (view_text_item r.item))) (seen text.now r.rest.now)) (run 64 (class_row items) (seen text.now tokens.now)) }
+        Reads text.now result (class_row items) tokens.now
+        (λ r. Items (More items (view_text_item r.item))) (λ r. r.rest.now) }
     ensures shorter { IfOk result (λ r. length r.rest.now < length tokens.now) }
 {
     let name = expect_name(alloc, text, tokens)?;
@@ -532,7 +555,8 @@ fn class_item<'a>(alloc: Global, text: &[u8], tokens: &'a [Token]) -> Result<Ite
 
 fn tag_type_item<'a>(alloc: Global, text: &[u8], tokens: &'a [Token]) -> Result<ItemRead<'a>, Fault>
     ensures answers { (items : Sequence source.Item) →
-        Answers result (λ r. run 64 (Items (More items (view_text_item r.item))) (seen text.now r.rest.now)) (run 64 (tag_type_row items) (seen text.now tokens.now)) }
+        Reads text.now result (tag_type_row items) tokens.now
+        (λ r. Items (More items (view_text_item r.item))) (λ r. r.rest.now) }
     ensures shorter { IfOk result (λ r. length r.rest.now < length tokens.now) }
 {
     let name = expect_name(alloc, text, tokens)?;
@@ -551,7 +575,8 @@ fn item<'a>(
 ) -> Result<ItemRead<'a>, Fault>
     requires end { token.kind ≡ token_kind.End → ⊥ }
     ensures answers { (items : Sequence source.Item) →
-        Answers result (λ r. run 64 (Items (More items (view_text_item r.item))) (seen text.now r.rest.now)) (run 64 (Items items) (seen text.now (token ∷ tokens.now))) }
+        Reads text.now result (Items items) (token ∷ tokens.now)
+        (λ r. Items (More items (view_text_item r.item))) (λ r. r.rest.now) }
     ensures shorter { IfOk result (λ r. length r.rest.now < length tokens.now) }
 {
     match token.kind {
@@ -568,7 +593,8 @@ fn item<'a>(
 // Behind the end nothing follows.
 fn at_end(list: Vec<Item>, rest: &[Token]) -> Result<Vec<Item>, Fault>
     ensures { (text : List ℕ) →
-        Answers result (λ v. Accepted (onto_by view_text_item v.items Empty)) (run 64 (Done (onto_by view_text_item list.items Empty)) (seen text rest.now)) }
+        Answers result (λ v. Accepted (onto_by view_text_item v.items Empty))
+        (run 64 (Done (onto_by view_text_item list.items Empty)) (seen text rest.now)) }
 {
     match rest {
         [] => Ok(list),
@@ -579,7 +605,8 @@ fn at_end(list: Vec<Item>, rest: &[Token]) -> Result<Vec<Item>, Fault>
 /// All of the tokens, up to the end.
 #[tactic(auto, using(crate::proofs::Sequences::items_push))]
 pub fn program(alloc: Global, text: &[u8], tokens: &[Token]) -> Result<Vec<Item>, Fault>
-    ensures { Answers result (λ v. Accepted (onto_by view_text_item v.items Empty)) (run 64 (Items Empty) (seen text.now tokens.now)) }
+    ensures { Answers result (λ v. Accepted (onto_by view_text_item v.items Empty))
+        (run 64 (Items Empty) (seen text.now tokens.now)) }
 {
     let mut list = Vec::new(alloc);
     let mut rest = tokens;

@@ -32,9 +32,9 @@ pub enum ParseFault {
 }
 
 /// The one tree that the tokens of a text spell. Names are the bytes of the text, and texts the bytes that they mean,
-/// with their escapes replaced. An array type `[]` is part of a `TypeText`; the type of a `new` with a length is that of
-/// its elements.
-#[tactic(auto, using(bc_grammar::proofs::Exact::sound, bc_grammar::proofs::Exact::unexpected, bc_grammar::proofs::Exact::too_deep))]
+/// with their escapes replaced. An array type `[]` is part of a `TypeText`; the type of a `new` with a length is that
+/// of its elements.
+#[tactic(auto, using(bc_law_grammar::proofs::Exact::sound, bc_law_grammar::proofs::Exact::unexpected, bc_law_grammar::proofs::Exact::too_deep))]
 pub fn parse(alloc: Global, text: &[u8], tokens: &List<Token>) -> Result<Tree, ParseFault>
     requires { IsEnded (seen text.now tokens.now) }
     ensures ok { IfOk result (λ tree. IsTreeOf 64 (view_tree tree) (seen text.now tokens.now)) }

@@ -12,8 +12,8 @@ use Rattle.bc_data.specs.declared.token.Sign.TheVariants as sign
 use Rattle.bc_data.specs.declared.token.Token.{Token}
 use Rattle.bc_data.specs.declared.token.TokenKind.{TokenKind}
 use Rattle.bc_data.specs.declared.token.TokenKind.TheVariants as token_kind
-use Rattle.bc_grammar.specs.Machine.{Paren, Bracket, Semicolon, Stack, InTwo, Inside, InArgs, InChain, State, Never, OnMark, Want, Got, After, No, On, levels, run, follow, link, not_link, open_call, reach, kind_at, Room, NoCall, Unbracketed, same_mark, Refused, TooDeep}
-use Rattle.bc_grammar.proofs.Steps.{push_two, blocked_two, end_two}
+use Rattle.bc_law_grammar.specs.Machine.{Paren, Bracket, Semicolon, Stack, InTwo, Inside, InArgs, InChain, State, Never, OnMark, Want, Got, After, No, On, levels, run, follow, link, not_link, open_call, reach, kind_at, Room, NoCall, Unbracketed, same_mark, Refused, TooDeep}
+use Rattle.bc_law_grammar.proofs.Steps.{push_two, blocked_two, end_two}
 use Rattle.bc_parse_expr.specs.Contract.{first_kind, reach_of, IsLinked, ChainIs, closer_of, closing_of}
 use Rattle.bc_parse_expr.specs.declared.cursor.Close.{Close}
 use Rattle.bc_parse_expr.specs.declared.cursor.Close.TheVariants as close

@@ -12,7 +12,7 @@ use Rattle.bc_data.specs.declared.token.Sign.{Sign}
 use Rattle.bc_data.specs.contracts.token.Word as word_type
 use Rattle.bc_data.specs.contracts.token.Sign as sign_type
 use Rattle.bc_parse_expr.specs.Contract.{IsOpen}
-use Rattle.bc_grammar.specs.Machine.{State, Done, OnMark, OnWord, On, step, run, follow, same_mark, same_word}
+use Rattle.bc_law_grammar.specs.Machine.{State, Done, OnMark, OnWord, On, step, run, follow, same_mark, same_word}
 
 pub on_mark : (s : Sign) (next : Place → State) (other : State) (t : Seen) (ts : List Seen) → t.kind ≡ Mark s → run 64 (OnMark s next other) (t ∷ ts) ≡ run 64 (next t.at) ts
 on_mark s next other t ts e = ap (λ b. follow 64 t.at (λ s. run 64 s ts) (if b then On (next t.at) else step other t)) (ap (same_mark s) e ∙ true_same sign_type.the_type s s refl)

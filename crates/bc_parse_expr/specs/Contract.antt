@@ -1,14 +1,14 @@
 -- What a reader says: the machine answers from where the reader began what it answers from where the reader stopped, or
 -- the fault.
 use Rattle.std.specs.Prelude.{◌≡◌, ℕ, ◌+◌, ◌≤◌, Bool, true, false, List, [], ◌∷◌, Result, Ok, Err}
-use Rattle.bc_data.specs.Seen.{lexeme}
+use Rattle.bc_data.specs.Seen.{lexeme, seen}
 use Rattle.bc_data.specs.SourceTree.{Expression, Field, Elem, Call, Length, height}
 use Rattle.bc_data.specs.declared.token.Sign.{Sign}
 use Rattle.bc_data.specs.declared.token.Token.{Token}
 use Rattle.bc_data.specs.declared.token.TokenKind.{TokenKind}
 use Rattle.bc_data.specs.declared.token.TokenKind.TheVariants as token_kind
 use Rattle.bc_data.specs.declared.token.Sign.TheVariants as sign
-use Rattle.bc_grammar.specs.Machine.{State, Done, Closer, Paren, Bracket, Semicolon, Stack, InChain, reach, Outcome, Refused, Cut, Unexpected, TooDeep}
+use Rattle.bc_law_grammar.specs.Machine.{State, Done, Closer, Paren, Bracket, Semicolon, Stack, InChain, reach, run, Outcome, Refused, Cut, Unexpected, TooDeep}
 use Rattle.bc_parse_expr.specs.declared.cursor.Fault.{Fault}
 use Rattle.bc_parse_expr.specs.declared.cursor.Fault.TheVariants as fault
 use Rattle.bc_parse_expr.specs.declared.cursor.Close.{Close}
@@ -23,6 +23,10 @@ Stops (fault.TooDeep at) from = from ≡ Refused TooDeep at
 abbrev pub Answers : {X : Type 0} → Result X Fault → (X → Outcome) → Outcome → Type 0
 Answers (Ok x) onward from = from ≡ onward x
 Answers (Err f) onward from = Stops f from
+
+-- What is read leads from this state, at these tokens, to the next one, at the rest; or the fault is told.
+abbrev pub Reads : {X : Type 0} → List ℕ → Result X Fault → State → List Token → (X → State) → (X → List Token) → Type 0
+Reads text result here tokens next rest = Answers result (λ x. run 64 (next x) (seen text (rest x))) (run 64 here (seen text tokens))
 
 -- the height that the code counted, below so many levels
 abbrev pub IsMeasured : ℕ → ℕ → Expression → Type 0

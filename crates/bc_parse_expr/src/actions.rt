@@ -1,14 +1,13 @@
 // Actions, and the braces of a `new`.
 
 ghost use Rattle.std.specs.Prelude.{◌≡◌, ℕ, ◌+◌, ◌≤◌, ◌<◌, Bool, List, [], ◌∷◌, length, IfOk, IfErr, IfSome, IfNone};
-ghost use Rattle.bc_data.specs.Seen.{seen};
 ghost use Rattle.bc_data.specs.SourceTree.{Sequence, Empty, More, Expressions, Make};
 ghost use Rattle.bc_data.specs.View.{onto};
 ghost use Rattle.bc_data.specs.declared.run.Place.{Place};
 ghost use Rattle.bc_data.specs.declared.tree.Named.{Named};
 ghost use Rattle.bc_data.specs.declared.tree.ActionText.{ActionText};
-ghost use Rattle.bc_grammar.specs.Machine.{State, Stack, After, Tweaking, run, tweaks_row, truth_row, tweak_behind};
-ghost use Rattle.bc_parse_expr.specs.Contract.{Answers, Stops};
+ghost use Rattle.bc_law_grammar.specs.Machine.{State, Stack, After, Tweaking, tweaks_row, truth_row, tweak_behind};
+ghost use Rattle.bc_parse_expr.specs.Contract.{Stops, Reads};
 
 use crate::cursor::{Fault, accept, accept_word, expect, expect_name, expect_word, named, next};
 use bc_data::token::{Sign, Token, TokenKind, Word};
@@ -32,7 +31,8 @@ pub struct ActionList<'a> {
 /// `:=` and a truth value, behind the flag of an action.
 pub fn flag_action(flag: Named, tokens: &[Token]) -> Result<ActionRead<'_>, Fault>
     ensures answers { (text : List ℕ) (next : ActionText → State) →
-        Answers result (λ r. run 64 (next r.action) (seen text r.rest.now)) (run 64 (truth_row flag next) (seen text tokens.now)) }
+        Reads text result (truth_row flag next) tokens.now
+        (λ r. next r.action) (λ r. r.rest.now) }
     ensures shorter { IfOk result (λ r. length r.rest.now < length tokens.now) }
 {
     let becomes = expect(tokens, Sign::Becomes)?;
@@ -54,7 +54,8 @@ pub fn flag_action(flag: Named, tokens: &[Token]) -> Result<ActionRead<'_>, Faul
 // An action in the braces of a `new`.
 fn tweak<'a>(alloc: Global, text: &[u8], tokens: &'a [Token]) -> Result<ActionRead<'a>, Fault>
     ensures answers { (tweaks : Sequence ActionText) (next : Sequence ActionText → State) →
-        Answers result (λ r. run 64 (tweak_behind (More tweaks r.action) next) (seen text.now r.rest.now)) (run 64 (Tweaking tweaks next) (seen text.now tokens.now)) }
+        Reads text.now result (Tweaking tweaks next) tokens.now
+        (λ r. tweak_behind (More tweaks r.action) next) (λ r. r.rest.now) }
     ensures shorter { IfOk result (λ r. length r.rest.now < length tokens.now) }
 {
     let (token, behind) = next(tokens)?;
@@ -75,7 +76,8 @@ fn tweak<'a>(alloc: Global, text: &[u8], tokens: &'a [Token]) -> Result<ActionRe
 #[tactic(auto, using(crate::proofs::Rows::onto_push))]
 fn tweaks<'a>(alloc: Global, text: &[u8], tokens: &'a [Token]) -> Result<ActionList<'a>, Fault>
     ensures answers { (next : Sequence ActionText → State) →
-        Answers result (λ r. run 64 (next (onto r.list.items Empty)) (seen text.now r.rest.now)) (run 64 (Tweaking Empty next) (seen text.now tokens.now)) }
+        Reads text.now result (Tweaking Empty next) tokens.now
+        (λ r. next (onto r.list.items Empty)) (λ r. r.rest.now) }
     ensures shorter { IfOk result (λ r. length r.rest.now < length tokens.now) }
 {
     let mut read = ActionList {
@@ -101,7 +103,8 @@ fn tweaks<'a>(alloc: Global, text: &[u8], tokens: &'a [Token]) -> Result<ActionL
 /// The braces behind a `new`, if there are any.
 pub fn braces<'a>(alloc: Global, text: &[u8], tokens: &'a [Token]) -> Result<ActionList<'a>, Fault>
     ensures answers { (at : Place) (x : Named) (args : Expressions) (st : Stack) →
-        Answers result (λ r. run 64 (After (Make at x args (onto r.list.items Empty)) st) (seen text.now r.rest.now)) (run 64 (tweaks_row at x args st) (seen text.now tokens.now)) }
+        Reads text.now result (tweaks_row at x args st) tokens.now
+        (λ r. After (Make at x args (onto r.list.items Empty)) st) (λ r. r.rest.now) }
     ensures shorter { IfOk result (λ r. length r.rest.now ≤ length tokens.now) }
 {
     match accept(tokens, Sign::OpenBrace) {

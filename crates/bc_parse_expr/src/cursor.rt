@@ -4,8 +4,8 @@ ghost use Rattle.std.specs.Prelude.{◌≡◌, ℕ, ◌+◌, ◌-◌, ◌≤◌,
 ghost use Rattle.bc_data.specs.Seen.{seen, between};
 ghost use Rattle.bc_data.specs.declared.run.Place.{Place};
 ghost use Rattle.bc_data.specs.declared.tree.Named.{Named};
-ghost use Rattle.bc_grammar.specs.Machine.{State, Never, OnMark, OnWord, OnName, run};
-ghost use Rattle.bc_parse_expr.specs.Contract.{Answers, Stops, IsOpen, closing_of};
+ghost use Rattle.bc_law_grammar.specs.Machine.{State, Never, OnMark, OnWord, OnName, run};
+ghost use Rattle.bc_parse_expr.specs.Contract.{Stops, IsOpen, closing_of, Reads};
 ghost use Rattle.bc_parse_expr.specs.declared.cursor.Fault.TheVariants.{Memory, Cut};
 
 use bc_data::list::List;
@@ -104,7 +104,8 @@ pub fn next(tokens: &[Token]) -> Result<(Token, &[Token]), Fault>
 #[tactic(auto, using(crate::proofs::Rows::on_mark, crate::proofs::Rows::not_mark, crate::proofs::Rows::no_mark))]
 pub fn accept(tokens: &[Token], sign: Sign) -> Option<Behind<'_>>
     ensures some { (text : List ℕ) (next : Place → State) (other : State) →
-        IfSome result (λ r. run 64 (OnMark sign next other) (seen text tokens.now) ≡ run 64 (next r.at) (seen text r.rest.now)) }
+        IfSome result (λ r. run 64 (OnMark sign next other) (seen text tokens.now)
+        ≡ run 64 (next r.at) (seen text r.rest.now)) }
     ensures none { (text : List ℕ) (next : Place → State) (other : State) → IsOpen other →
         IfNone result (run 64 (OnMark sign next other) (seen text tokens.now) ≡ run 64 other (seen text tokens.now)) }
     ensures shorter { IfSome result (λ r. length r.rest.now < length tokens.now) }
@@ -131,7 +132,8 @@ pub fn refuse(tokens: &[Token]) -> Fault
 /// The tokens behind this mark, which has to come next.
 pub fn expect(tokens: &[Token], sign: Sign) -> Result<Behind<'_>, Fault>
     ensures answers { (text : List ℕ) (next : Place → State) →
-        Answers result (λ r. run 64 (next r.at) (seen text r.rest.now)) (run 64 (OnMark sign next Never) (seen text tokens.now)) }
+        Reads text result (OnMark sign next Never) tokens.now
+        (λ r. next r.at) (λ r. r.rest.now) }
     ensures shorter { IfOk result (λ r. length r.rest.now < length tokens.now) }
 {
     match accept(tokens, sign) {
@@ -144,7 +146,8 @@ pub fn expect(tokens: &[Token], sign: Sign) -> Result<Behind<'_>, Fault>
 #[tactic(auto, using(crate::proofs::Rows::on_word, crate::proofs::Rows::not_word, crate::proofs::Rows::no_word))]
 pub fn accept_word(tokens: &[Token], word: Word) -> Option<Behind<'_>>
     ensures some { (text : List ℕ) (next : Place → State) (other : State) →
-        IfSome result (λ r. run 64 (OnWord word next other) (seen text tokens.now) ≡ run 64 (next r.at) (seen text r.rest.now)) }
+        IfSome result (λ r. run 64 (OnWord word next other) (seen text tokens.now)
+        ≡ run 64 (next r.at) (seen text r.rest.now)) }
     ensures none { (text : List ℕ) (next : Place → State) (other : State) → IsOpen other →
         IfNone result (run 64 (OnWord word next other) (seen text tokens.now) ≡ run 64 other (seen text tokens.now)) }
     ensures shorter { IfSome result (λ r. length r.rest.now < length tokens.now) }
@@ -161,7 +164,8 @@ pub fn accept_word(tokens: &[Token], word: Word) -> Option<Behind<'_>>
 /// The tokens behind this keyword, which has to come next.
 pub fn expect_word(tokens: &[Token], word: Word) -> Result<Behind<'_>, Fault>
     ensures answers { (text : List ℕ) (next : Place → State) →
-        Answers result (λ r. run 64 (next r.at) (seen text r.rest.now)) (run 64 (OnWord word next Never) (seen text tokens.now)) }
+        Reads text result (OnWord word next Never) tokens.now
+        (λ r. next r.at) (λ r. r.rest.now) }
     ensures shorter { IfOk result (λ r. length r.rest.now < length tokens.now) }
 {
     match accept_word(tokens, word) {
@@ -214,7 +218,8 @@ pub fn expect_name<'a>(
     tokens: &'a [Token],
 ) -> Result<NameRead<'a>, Fault>
     ensures answers { (next : Named → State) →
-        Answers result (λ r. run 64 (next r.name) (seen text.now r.rest.now)) (run 64 (OnName next Never) (seen text.now tokens.now)) }
+        Reads text.now result (OnName next Never) tokens.now
+        (λ r. next r.name) (λ r. r.rest.now) }
     ensures shorter { IfOk result (λ r. length r.rest.now < length tokens.now) }
 {
     let (token, rest) = next(tokens)?;

@@ -8,8 +8,8 @@ ghost use Rattle.bc_data.specs.View.{view, views, onto};
 ghost use Rattle.bc_data.specs.declared.token.TokenKind.TheVariants as token_kind;
 ghost use Rattle.bc_data.specs.declared.token.Word.TheVariants as word;
 ghost use Rattle.bc_data.specs.declared.token.Sign.TheVariants as sign;
-ghost use Rattle.bc_grammar.specs.Machine.{State, Stack, Inside, Want, Got, After, Dotted, No, On, levels, args_row, tweaks_row, new_row, array_row, one_type, want, run, reach, kind_at, Room, NoCall, Unbracketed};
-ghost use Rattle.bc_parse_expr.specs.Contract.{Answers, Stops, IsMeasured, IsLinked, IsPrefix, ChainIs, first_kind, reach_of, closer_of};
+ghost use Rattle.bc_law_grammar.specs.Machine.{State, Stack, Inside, Want, Got, After, Dotted, No, On, levels, args_row, tweaks_row, new_row, array_row, one_type, want, run, reach, kind_at, Room, NoCall, Unbracketed};
+ghost use Rattle.bc_parse_expr.specs.Contract.{Stops, IsMeasured, IsLinked, IsPrefix, ChainIs, first_kind, reach_of, closer_of, Reads};
 ghost use Rattle.bc_parse_expr.specs.declared.cursor.Fault.TheVariants.{Memory};
 
 use crate::actions::braces;
@@ -133,7 +133,8 @@ fn link_of(tokens: &[Token]) -> Link
 #[tactic(auto, using(crate::proofs::Expressions::not_opening))]
 fn opening(tokens: &[Token]) -> Option<&[Token]>
     ensures some { (text : List ℕ) (at : Place) (a : Expression) (x : Named) (st : Stack) →
-        IfSome result (λ r. run 64 (Got (Field at a x) st) (seen text tokens.now) ≡ run 64 (args_row (λ args. Got (Call at a x args) st) st) (seen text r.now)) }
+        IfSome result (λ r. run 64 (Got (Field at a x) st) (seen text tokens.now)
+        ≡ run 64 (args_row (λ args. Got (Call at a x args) st) st) (seen text r.now)) }
     ensures none { (text : List ℕ) (e : Expression) → IfNone result (NoCall (kind_at (seen text tokens.now)) e) }
     ensures shorter { IfSome result (λ r. length r.now < length tokens.now) }
 {
@@ -199,7 +200,7 @@ fn new_make(at: Place, name: Named, args: Vec<ExprText>, tweaks: Vec<ActionText>
 
 /// An expression whose operators bind at most as loosely as `loosest`: 7 is any expression.
 #[cycle(expr)]
-#[tactic(auto, using(bc_grammar::proofs::Forward::room_down))]
+#[tactic(auto, using(bc_law_grammar::proofs::Forward::room_down))]
 pub fn binary<'a>(
     alloc: Global,
     text: &[u8],
@@ -210,7 +211,8 @@ pub fn binary<'a>(
     requires base { base ≤ 64 }
     requires loosest { (1 ≤ loosest) × (loosest ≤ 7) }
     ensures answers { (st : Stack) → levels st ≡ base → Room loosest st →
-        Answers result (λ x. run 64 (After (view x.tree) st) (seen text.now x.rest.now)) (run 64 (Want st) (seen text.now tokens.now)) }
+        Reads text.now result (Want st) tokens.now
+        (λ x. After (view x.tree) st) (λ x. x.rest.now) }
     ensures whole { IfOk result (λ x. loosest < reach_of x.rest.now) }
     ensures height { IfOk result (λ x. IsMeasured base x.height (view x.tree)) }
     ensures shorter { IfOk result (λ x. length x.rest.now < length tokens.now) }
@@ -238,7 +240,8 @@ fn with_operator<'a>(
     requires op { first_kind left.rest.now ≡ token_kind.Mark (sign_of op) }
     requires height { IsMeasured base left.height (view left.tree) }
     ensures answers { (st : Stack) → levels st ≡ base → Room (looseness op) st →
-        Answers result (λ x. run 64 (After (view x.tree) st) (seen text.now x.rest.now)) (run 64 (After (view left.entry.tree) st) (seen text.now left.entry.rest.now)) }
+        Reads text.now result (After (view left.entry.tree) st) left.entry.rest.now
+        (λ x. After (view x.tree) st) (λ x. x.rest.now) }
     ensures height { IfOk result (λ x. IsMeasured base x.height (view x.tree)) }
     ensures shorter { IfOk result (λ x. length x.rest.now < length left.entry.rest.now) }
 {
@@ -258,7 +261,7 @@ fn with_operator<'a>(
 }
 
 #[cycle(expr)]
-#[tactic(auto, using(crate::proofs::Expressions::room_chain, bc_grammar::proofs::Forward::operand_unbracketed))]
+#[tactic(auto, using(crate::proofs::Expressions::room_chain, bc_law_grammar::proofs::Forward::operand_unbracketed))]
 fn unary<'a>(
     alloc: Global,
     text: &[u8],
@@ -267,7 +270,8 @@ fn unary<'a>(
 ) -> Result<ExprRead<'a>, Fault>
     requires { base ≤ 64 }
     ensures answers { (st : Stack) → levels st ≡ base → Room 1 st →
-        Answers result (λ x. run 64 (After (view x.tree) st) (seen text.now x.rest.now)) (run 64 (Want st) (seen text.now tokens.now)) }
+        Reads text.now result (Want st) tokens.now
+        (λ x. After (view x.tree) st) (λ x. x.rest.now) }
     ensures height { IfOk result (λ x. IsMeasured base x.height (view x.tree)) }
     ensures shorter { IfOk result (λ x. length x.rest.now < length tokens.now) }
 {
@@ -284,7 +288,7 @@ fn unary<'a>(
 
 // `-` or `!`, and its operand.
 #[cycle(expr)]
-#[tactic(auto, using(bc_grammar::proofs::Steps::end_neg, bc_grammar::proofs::Steps::end_not))]
+#[tactic(auto, using(bc_law_grammar::proofs::Steps::end_neg, bc_law_grammar::proofs::Steps::end_not))]
 fn prefix<'a>(
     alloc: Global,
     text: &[u8],
@@ -295,7 +299,8 @@ fn prefix<'a>(
     requires base { base ≤ 64 }
     requires prefix { IsPrefix token.kind }
     ensures answers { (st : Stack) → levels st ≡ base →
-        Answers result (λ x. run 64 (After (view x.tree) st) (seen text.now x.rest.now)) (run 64 (Want st) (seen text.now (token ∷ tokens.now))) }
+        Reads text.now result (Want st) (token ∷ tokens.now)
+        (λ x. After (view x.tree) st) (λ x. x.rest.now) }
     ensures height { IfOk result (λ x. IsMeasured base x.height (view x.tree)) }
     ensures shorter { IfOk result (λ x. length x.rest.now < length tokens.now + 1) }
 {
@@ -324,7 +329,8 @@ fn primary<'a>(
     requires no_prefix { IsPrefix token.kind → ⊥ }
     requires no_new { token.kind ≡ token_kind.Keyword word.New → ⊥ }
     ensures answers { (st : Stack) → levels st ≡ base →
-        Answers result (λ x. run 64 (Got (view x.tree) st) (seen text.now x.rest.now)) (run 64 (Want st) (seen text.now (token ∷ tokens.now))) }
+        Reads text.now result (Want st) (token ∷ tokens.now)
+        (λ x. Got (view x.tree) st) (λ x. x.rest.now) }
     ensures whole { IfOk result (λ x. NoCall (kind_at (seen text.now x.rest.now)) (view x.tree)) }
     ensures height { IfOk result (λ x. IsMeasured base x.height (view x.tree)) }
     ensures shorter { IfOk result (λ x. length x.rest.now < length tokens.now + 1) }
@@ -353,7 +359,8 @@ fn group<'a>(
     requires base { base ≤ 64 }
     requires paren { token.kind ≡ token_kind.Mark sign.OpenParen }
     ensures answers { (st : Stack) → levels st ≡ base →
-        Answers result (λ x. run 64 (Got (view x.tree) st) (seen text.now x.rest.now)) (run 64 (Want st) (seen text.now (token ∷ tokens.now))) }
+        Reads text.now result (Want st) (token ∷ tokens.now)
+        (λ x. Got (view x.tree) st) (λ x. x.rest.now) }
     ensures whole { IfOk result (λ x. NoCall (kind_at (seen text.now x.rest.now)) (view x.tree)) }
     ensures height { IfOk result (λ x. IsMeasured base x.height (view x.tree)) }
     ensures shorter { IfOk result (λ x. length x.rest.now < length tokens.now) }
@@ -379,7 +386,8 @@ pub fn inside<'a>(
 ) -> Result<ExprRead<'a>, Fault>
     requires base { base < 64 }
     ensures answers { (st : Stack) (onward : Expression → State) → levels st ≡ base →
-        Answers result (λ x. run 64 (onward (view x.tree)) (seen text.now x.rest.now)) (run 64 (Want (Inside (closer_of close) onward st)) (seen text.now tokens.now)) }
+        Reads text.now result (Want (Inside (closer_of close) onward st)) tokens.now
+        (λ x. onward (view x.tree)) (λ x. x.rest.now) }
     ensures height { IfOk result (λ x. IsMeasured (base + 1) x.height (view x.tree)) }
     ensures shorter { IfOk result (λ x. length x.rest.now < length tokens.now) }
 {
@@ -405,8 +413,10 @@ pub fn links<'a>(
     requires base { base ≤ 64 }
     requires whole { NoCall (kind_at (seen text.now start.rest.now)) (view start.tree) }
     requires height { IsMeasured base start.height (view start.tree) }
-    ensures answers { (st : Stack) → levels st ≡ base → ChainIs chain st → Unbracketed (kind_at (seen text.now start.entry.rest.now)) (view start.entry.tree) st →
-        Answers result (λ x. run 64 (After (view x.tree) st) (seen text.now x.rest.now)) (run 64 (Got (view start.entry.tree) st) (seen text.now start.entry.rest.now)) }
+    ensures answers { (st : Stack) → levels st ≡ base → ChainIs chain st →
+        Unbracketed (kind_at (seen text.now start.entry.rest.now)) (view start.entry.tree) st →
+        Reads text.now result (Got (view start.entry.tree) st) start.entry.rest.now
+        (λ x. After (view x.tree) st) (λ x. x.rest.now) }
     ensures height { IfOk result (λ x. IsMeasured base x.height (view x.tree)) }
     ensures shorter { IfOk result (λ x. length x.rest.now ≤ length start.entry.rest.now) }
 {
@@ -433,7 +443,8 @@ fn dot_link<'a>(
     requires dot { first_kind left.rest.now ≡ token_kind.Mark sign.Dot }
     requires height { IsMeasured base left.height (view left.tree) }
     ensures answers { (st : Stack) → levels st ≡ base → ChainIs chain st →
-        Answers result (λ x. run 64 (Got (view x.tree) st) (seen text.now x.rest.now)) (run 64 (Got (view left.entry.tree) st) (seen text.now left.entry.rest.now)) }
+        Reads text.now result (Got (view left.entry.tree) st) left.entry.rest.now
+        (λ x. Got (view x.tree) st) (λ x. x.rest.now) }
     ensures whole { IfOk result (λ x. NoCall (kind_at (seen text.now x.rest.now)) (view x.tree)) }
     ensures linked { IfOk result (λ x. IsLinked (view x.tree)) }
     ensures height { IfOk result (λ x. IsMeasured base x.height (view x.tree)) }
@@ -467,7 +478,8 @@ fn length_link<'a>(
     requires word { token.kind ≡ token_kind.Keyword word.Length }
     requires level { (left.height ≡ height (view left.tree)) × (left.height + base + 1 ≤ 64) }
     ensures answers { (text : List ℕ) (st : Stack) → levels st ≡ base → ChainIs chain st →
-        Answers result (λ x. run 64 (Got (view x.tree) st) (seen text x.rest.now)) (run 64 (Dotted at (view left.entry.tree) st) (seen text (token ∷ rest.now))) }
+        Reads text result (Dotted at (view left.entry.tree) st) (token ∷ rest.now)
+        (λ x. Got (view x.tree) st) (λ x. x.rest.now) }
     ensures whole { IfOk result (λ x. (k : Lexeme) → NoCall k (view x.tree)) }
     ensures linked { IfOk result (λ x. IsLinked (view x.tree)) }
     ensures height { IfOk result (λ x. IsMeasured base x.height (view x.tree)) }
@@ -496,7 +508,8 @@ fn field<'a>(
 ) -> Result<ExprRead<'a>, Fault>
     requires level { (left.height ≡ height (view left.tree)) × (left.height + base + 1 ≤ 64) }
     ensures answers { (st : Stack) → levels st ≡ base →
-        Answers result (λ x. run 64 (Got (view x.tree) st) (seen text.now x.rest.now)) (run 64 (Got (Field at (view left.entry.tree) name) st) (seen text.now tokens.now)) }
+        Reads text.now result (Got (Field at (view left.entry.tree) name) st) tokens.now
+        (λ x. Got (view x.tree) st) (λ x. x.rest.now) }
     ensures whole { IfOk result (λ x. NoCall (kind_at (seen text.now x.rest.now)) (view x.tree)) }
     ensures linked { IfOk result (λ x. IsLinked (view x.tree)) }
     ensures height { IfOk result (λ x. IsMeasured base x.height (view x.tree)) }
@@ -520,7 +533,7 @@ fn field<'a>(
 }
 
 #[cycle(expr)]
-#[tactic(auto, using(bc_grammar::proofs::Forward::bracket_plain))]
+#[tactic(auto, using(bc_law_grammar::proofs::Forward::bracket_plain))]
 fn element<'a>(
     alloc: Global,
     text: &[u8],
@@ -531,7 +544,8 @@ fn element<'a>(
     requires bracket { first_kind left.rest.now ≡ token_kind.Mark sign.OpenBracket }
     requires height { IsMeasured base left.height (view left.tree) }
     ensures answers { (st : Stack) → levels st ≡ base → Unbracketed (Mark sign.OpenBracket) (view left.entry.tree) st →
-        Answers result (λ x. run 64 (Got (view x.tree) st) (seen text.now x.rest.now)) (run 64 (Got (view left.entry.tree) st) (seen text.now left.entry.rest.now)) }
+        Reads text.now result (Got (view left.entry.tree) st) left.entry.rest.now
+        (λ x. Got (view x.tree) st) (λ x. x.rest.now) }
     ensures whole { IfOk result (λ x. NoCall (kind_at (seen text.now x.rest.now)) (view x.tree)) }
     ensures linked { IfOk result (λ x. IsLinked (view x.tree)) }
     ensures height { IfOk result (λ x. IsMeasured base x.height (view x.tree)) }
@@ -562,7 +576,8 @@ pub fn arguments<'a>(
 ) -> Result<ArgumentList<'a>, Fault>
     requires { base < 64 }
     ensures answers { (st : Stack) (onward : Expressions → State) → levels st ≡ base →
-        Answers result (λ r. run 64 (onward (views r.list.items NoArg)) (seen text.now r.rest.now)) (run 64 (args_row onward st) (seen text.now tokens.now)) }
+        Reads text.now result (args_row onward st) tokens.now
+        (λ r. onward (views r.list.items NoArg)) (λ r. r.rest.now) }
     ensures height { IfOk result (λ r. (r.height ≡ tallest (views r.list.items NoArg)) × (r.height + base + 1 ≤ 64)) }
     ensures shorter { IfOk result (λ r. length r.rest.now < length tokens.now) }
 {
@@ -604,7 +619,8 @@ fn made<'a>(
     requires base { base ≤ 64 }
     requires new { token.kind ≡ token_kind.Keyword word.New }
     ensures answers { (st : Stack) → levels st ≡ base →
-        Answers result (λ x. run 64 (After (view x.tree) st) (seen text.now x.rest.now)) (run 64 (Want st) (seen text.now (token ∷ tokens.now))) }
+        Reads text.now result (Want st) (token ∷ tokens.now)
+        (λ x. After (view x.tree) st) (λ x. x.rest.now) }
     ensures height { IfOk result (λ x. IsMeasured base x.height (view x.tree)) }
     ensures shorter { IfOk result (λ x. length x.rest.now < length tokens.now) }
 {
@@ -668,7 +684,8 @@ pub fn object<'a>(
 ) -> Result<ExprRead<'a>, Fault>
     requires base { base < 64 }
     ensures answers { (st : Stack) → levels st ≡ base →
-        Answers result (λ x. run 64 (After (view x.tree) st) (seen text.now x.rest.now)) (run 64 (args_row (λ args. tweaks_row at name args st) st) (seen text.now tokens.now)) }
+        Reads text.now result (args_row (λ args. tweaks_row at name args st) st) tokens.now
+        (λ x. After (view x.tree) st) (λ x. x.rest.now) }
     ensures made { IfOk result (λ x. IsMade (view x.tree)) }
     ensures height { IfOk result (λ x. IsMeasured base x.height (view x.tree)) }
     ensures shorter { IfOk result (λ x. length x.rest.now < length tokens.now) }
@@ -694,7 +711,8 @@ fn array<'a>(
 ) -> Result<ExprRead<'a>, Fault>
     requires base { base < 64 }
     ensures answers { (st : Stack) → levels st ≡ base →
-        Answers result (λ x. run 64 (After (view x.tree) st) (seen text.now x.rest.now)) (run 64 (array_row at kind st) (seen text.now tokens.now)) }
+        Reads text.now result (array_row at kind st) tokens.now
+        (λ x. After (view x.tree) st) (λ x. x.rest.now) }
     ensures height { IfOk result (λ x. IsMeasured base x.height (view x.tree)) }
     ensures shorter { IfOk result (λ x. length x.rest.now < length tokens.now) }
 {

@@ -10,8 +10,8 @@ use Rattle.bc_data.specs.declared.token.Sign.TheVariants as sign
 use Rattle.bc_data.specs.declared.token.Token.{Token}
 use Rattle.bc_data.specs.declared.token.TokenKind.{TokenKind}
 use Rattle.bc_data.specs.declared.token.TokenKind.TheVariants as token_kind
-use Rattle.bc_grammar.specs.Machine.{Bracket, Stack, Inside, InChain, State, Got, Bracketed, Step, No, On, Deep, levels, raise, run, follow, want, bracketed, elem_value, kind_at, Unbracketed, Refused, TooDeep, Unexpected}
-use Rattle.bc_grammar.proofs.Forward.{bracket_want, NotBracketEnd}
+use Rattle.bc_law_grammar.specs.Machine.{Bracket, Stack, Inside, InChain, State, Got, Bracketed, Step, No, On, Deep, levels, raise, run, follow, want, bracketed, elem_value, kind_at, Unbracketed, Refused, TooDeep, Unexpected}
+use Rattle.bc_law_grammar.proofs.Forward.{bracket_want, NotBracketEnd}
 use Rattle.bc_parse_expr.specs.Contract.{first_kind}
 use Rattle.bc_parse_stat.specs.Reading.{IsOperandKind}
 

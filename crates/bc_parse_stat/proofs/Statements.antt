@@ -11,7 +11,7 @@ use Rattle.bc_data.specs.declared.token.Sign.TheVariants as sign
 use Rattle.bc_data.specs.declared.token.Token.{Token}
 use Rattle.bc_data.specs.declared.token.TokenKind.{TokenKind}
 use Rattle.bc_data.specs.declared.token.TokenKind.TheVariants as token_kind
-use Rattle.bc_grammar.specs.Machine.{Stack, InPrint, InMade, Body, InBlock, State, Never, OnMark, Want, After, Stats, Printing, Step, No, On, run, follow, step, not_link, stat, want, printing, print_behind, reach, same_mark, close_brace}
+use Rattle.bc_law_grammar.specs.Machine.{Stack, InPrint, InMade, Body, InBlock, State, Never, OnMark, Want, After, Stats, Printing, Step, No, On, run, follow, step, not_link, stat, want, printing, print_behind, reach, same_mark, close_brace}
 use Rattle.bc_parse_expr.specs.Contract.{first_kind, reach_of}
 use Rattle.bc_parse_expr.proofs.Expressions.{reach_lexeme}
 use Rattle.bc_parse_stat.specs.Reading.{ClosesTo}

@@ -10,8 +10,8 @@ ghost use Rattle.bc_data.specs.declared.tree.Named.{Named};
 ghost use Rattle.bc_data.specs.declared.token.TokenKind.TheVariants as token_kind;
 ghost use Rattle.bc_data.specs.declared.token.Word.TheVariants as word;
 ghost use Rattle.bc_data.specs.declared.token.Sign.TheVariants as sign;
-ghost use Rattle.bc_grammar.specs.Machine.{State, Stack, InChain, Got, After, Bracketed, Stats, levels, run, kind_at, NoCall};
-ghost use Rattle.bc_parse_expr.specs.Contract.{Answers, Stops, IsMeasured, IsLinked, first_kind};
+ghost use Rattle.bc_law_grammar.specs.Machine.{State, Stack, InChain, Got, After, Bracketed, Stats, levels, run, kind_at, NoCall};
+ghost use Rattle.bc_parse_expr.specs.Contract.{Stops, IsMeasured, IsLinked, first_kind, Reads};
 ghost use Rattle.bc_parse_stat.specs.Reading.{IsOperandKind};
 
 use crate::row::{StatRead, declared_as, let_behind};
@@ -34,7 +34,8 @@ pub fn this_statement<'a>(
     requires base { base ≤ 64 }
     requires this { token.kind ≡ token_kind.Keyword word.This }
     ensures answers { (st : Stack) (front : Statements) → levels st ≡ base →
-        Answers result (λ r. run 64 (Stats (Then front (view_stat r.tree)) st) (seen text.now r.rest.now)) (run 64 (Stats front st) (seen text.now (token ∷ tokens.now))) }
+        Reads text.now result (Stats front st) (token ∷ tokens.now)
+        (λ r. Stats (Then front (view_stat r.tree)) st) (λ r. r.rest.now) }
     ensures shorter { IfOk result (λ r. length r.rest.now < length tokens.now) }
 {
     check_level(base, 1, token.at)?;
@@ -59,7 +60,8 @@ pub fn named_statement<'a>(
     requires base { base ≤ 64 }
     requires name { token.kind ≡ token_kind.Name }
     ensures answers { (st : Stack) (front : Statements) → levels st ≡ base →
-        Answers result (λ r. run 64 (Stats (Then front (view_stat r.tree)) st) (seen text.now r.rest.now)) (run 64 (Stats front st) (seen text.now (token ∷ tokens.now))) }
+        Reads text.now result (Stats front st) (token ∷ tokens.now)
+        (λ r. Stats (Then front (view_stat r.tree)) st) (λ r. r.rest.now) }
     ensures shorter { IfOk result (λ r. length r.rest.now < length tokens.now) }
 {
     check_level(base, 0, token.at)?;
@@ -73,7 +75,8 @@ pub fn named_statement<'a>(
 // The tokens behind a `[`, if it comes next.
 fn bracket(tokens: &[Token]) -> Option<Behind<'_>>
     ensures some { (text : List ℕ) (name : Named) (front : Statements) (st : Stack) →
-        IfSome result (λ r. run 64 (Got (Var name) (InChain front st)) (seen text tokens.now) ≡ run 64 (Bracketed r.at name front st) (seen text r.rest.now)) }
+        IfSome result (λ r. run 64 (Got (Var name) (InChain front st)) (seen text tokens.now)
+        ≡ run 64 (Bracketed r.at name front st) (seen text r.rest.now)) }
     ensures none { IfNone result (first_kind tokens.now ≡ token_kind.Mark sign.OpenBracket → ⊥) }
     ensures shorter { IfSome result (λ r. length r.rest.now < length tokens.now) }
 {
@@ -98,7 +101,8 @@ fn named_chain<'a>(
     requires base { base < 64 }
     requires bracket { first_kind tokens.now ≡ token_kind.Mark sign.OpenBracket → ⊥ }
     ensures answers { (st : Stack) (front : Statements) → levels st ≡ base →
-        Answers result (λ r. run 64 (Stats (Then front (view_stat r.tree)) st) (seen text.now r.rest.now)) (run 64 (Got (Var name) (InChain front st)) (seen text.now tokens.now)) }
+        Reads text.now result (Got (Var name) (InChain front st)) tokens.now
+        (λ r. Stats (Then front (view_stat r.tree)) st) (λ r. r.rest.now) }
     ensures shorter { IfOk result (λ r. length r.rest.now < length tokens.now) }
 {
     let chain = links(
@@ -123,7 +127,8 @@ fn bracketed<'a>(
 ) -> Result<StatRead<'a>, Fault>
     requires base { base < 64 }
     ensures answers { (st : Stack) (front : Statements) → levels st ≡ base →
-        Answers result (λ r. run 64 (Stats (Then front (view_stat r.tree)) st) (seen text.now r.rest.now)) (run 64 (Bracketed at name front st) (seen text.now tokens.now)) }
+        Reads text.now result (Bracketed at name front st) tokens.now
+        (λ r. Stats (Then front (view_stat r.tree)) st) (λ r. r.rest.now) }
     ensures shorter { IfOk result (λ r. length r.rest.now < length tokens.now) }
 {
     let (token, behind) = next(tokens)?;
@@ -191,7 +196,8 @@ fn first_element<'a>(
     requires base { base < 64 }
     requires element { first_kind tokens.now ≡ token_kind.Mark sign.CloseBracket → ⊥ }
     ensures answers { (st : Stack) (front : Statements) → levels st ≡ base →
-        Answers result (λ x. run 64 (Got (view x.tree) (InChain front st)) (seen text.now x.rest.now)) (run 64 (Bracketed at name front st) (seen text.now tokens.now)) }
+        Reads text.now result (Bracketed at name front st) tokens.now
+        (λ x. Got (view x.tree) (InChain front st)) (λ x. x.rest.now) }
     ensures linked { IfOk result (λ x. IsLinked (view x.tree)) }
     ensures whole { IfOk result (λ x. NoCall (kind_at (seen text.now x.rest.now)) (view x.tree)) }
     ensures height { IfOk result (λ x. IsMeasured (base + 1) x.height (view x.tree)) }
@@ -221,7 +227,8 @@ fn behind_chain<'a>(
 ) -> Result<StatRead<'a>, Fault>
     requires base { base < 64 }
     ensures answers { (st : Stack) (front : Statements) → levels st ≡ base →
-        Answers result (λ r. run 64 (Stats (Then front (view_stat r.tree)) st) (seen text.now r.rest.now)) (run 64 (After (view chain.entry.tree) (InChain front st)) (seen text.now chain.entry.rest.now)) }
+        Reads text.now result (After (view chain.entry.tree) (InChain front st)) chain.entry.rest.now
+        (λ r. Stats (Then front (view_stat r.tree)) st) (λ r. r.rest.now) }
     ensures shorter { IfOk result (λ r. length r.rest.now < length chain.entry.rest.now) }
 {
     let (token, behind) = next(chain.rest)?;
@@ -253,7 +260,7 @@ fn is_call(tree: &ExprText) -> bool
     }
 }
 
-#[tactic(auto, using(bc_grammar::proofs::Steps::assign_target, bc_grammar::proofs::Steps::assign_other))]
+#[tactic(auto, using(bc_law_grammar::proofs::Steps::assign_target, bc_law_grammar::proofs::Steps::assign_other))]
 fn assignment<'a>(
     alloc: Global,
     text: &[u8],
@@ -265,7 +272,8 @@ fn assignment<'a>(
     requires base { base < 64 }
     requires equals { token.kind ≡ token_kind.Mark sign.Equals }
     ensures answers { (st : Stack) (front : Statements) → levels st ≡ base →
-        Answers result (λ r. run 64 (Stats (Then front (view_stat r.tree)) st) (seen text.now r.rest.now)) (run 64 (After (view target) (InChain front st)) (seen text.now (token ∷ tokens.now))) }
+        Reads text.now result (After (view target) (InChain front st)) (token ∷ tokens.now)
+        (λ r. Stats (Then front (view_stat r.tree)) st) (λ r. r.rest.now) }
     ensures shorter { IfOk result (λ r. length r.rest.now < length tokens.now) }
 {
     if !is_target(&target) {
@@ -278,11 +286,12 @@ fn assignment<'a>(
     })
 }
 
-#[tactic(auto, using(bc_grammar::proofs::Steps::end_call, bc_grammar::proofs::Steps::end_other))]
+#[tactic(auto, using(bc_law_grammar::proofs::Steps::end_call, bc_law_grammar::proofs::Steps::end_other))]
 fn call_statement(call: ExprText, token: Token, tokens: &[Token]) -> Result<StatRead<'_>, Fault>
     requires semicolon { token.kind ≡ token_kind.Mark sign.Semicolon }
     ensures answers { (text : List ℕ) (st : Stack) (front : Statements) →
-        Answers result (λ r. run 64 (Stats (Then front (view_stat r.tree)) st) (seen text r.rest.now)) (run 64 (After (view call) (InChain front st)) (seen text (token ∷ tokens.now))) }
+        Reads text result (After (view call) (InChain front st)) (token ∷ tokens.now)
+        (λ r. Stats (Then front (view_stat r.tree)) st) (λ r. r.rest.now) }
     ensures shorter { IfOk result (λ r. length r.rest.now ≤ length tokens.now) }
 {
     if !is_call(&call) {
@@ -306,7 +315,8 @@ fn variable<'a>(
     requires base { base < 64 }
     requires name { token.kind ≡ token_kind.Name }
     ensures answers { (st : Stack) (front : Statements) → levels st ≡ base →
-        Answers result (λ r. run 64 (Stats (Then front (view_stat r.tree)) st) (seen text.now r.rest.now)) (run 64 (After (view kind) (InChain front st)) (seen text.now (token ∷ tokens.now))) }
+        Reads text.now result (After (view kind) (InChain front st)) (token ∷ tokens.now)
+        (λ r. Stats (Then front (view_stat r.tree)) st) (λ r. r.rest.now) }
     ensures shorter { IfOk result (λ r. length r.rest.now < length tokens.now) }
 {
     match kind {

@@ -1,12 +1,11 @@
 // The changes of a `taskexit`.
 
 ghost use Rattle.std.specs.Prelude.{◌≡◌, ℕ, ◌+◌, ◌≤◌, ◌<◌, Bool, true, false, List, [], ◌∷◌, length, if◌then◌else◌, IfOk, IfErr, IfSome, IfNone};
-ghost use Rattle.bc_data.specs.Seen.{seen};
 ghost use Rattle.bc_data.specs.SourceTree.{Sequence, Empty, More, Change, Statements, Then};
 ghost use Rattle.bc_data.specs.View.{view_change, view_stat, onto, onto_by};
 ghost use Rattle.bc_data.specs.declared.tree.ActionText.{ActionText};
-ghost use Rattle.bc_grammar.specs.Machine.{State, Stack, Stats, Acting, Changing, run, act_behind, exit_ends, exit_row};
-ghost use Rattle.bc_parse_expr.specs.Contract.{Answers, Stops};
+ghost use Rattle.bc_law_grammar.specs.Machine.{State, Stack, Stats, Acting, Changing, run, act_behind, exit_ends, exit_row};
+ghost use Rattle.bc_parse_expr.specs.Contract.{Stops, Reads};
 
 use crate::row::StatRead;
 use bc_data::run::Place;
@@ -41,7 +40,8 @@ struct ChangeList<'a> {
 
 fn action<'a>(alloc: Global, text: &[u8], tokens: &'a [Token]) -> Result<ActionRead<'a>, Fault>
     ensures answers { (actions : Sequence ActionText) (more last : Sequence ActionText → State) →
-        Answers result (λ r. run 64 (act_behind (More actions r.action) more last) (seen text.now r.rest.now)) (run 64 (Acting actions more last) (seen text.now tokens.now)) }
+        Reads text.now result (Acting actions more last) tokens.now
+        (λ r. act_behind (More actions r.action) more last) (λ r. r.rest.now) }
     ensures shorter { IfOk result (λ r. length r.rest.now < length tokens.now) }
 {
     let (token, behind) = next(tokens)?;
@@ -68,7 +68,8 @@ fn action<'a>(alloc: Global, text: &[u8], tokens: &'a [Token]) -> Result<ActionR
 #[tactic(auto, using(bc_parse_expr::proofs::Rows::onto_push))]
 fn actions<'a>(alloc: Global, text: &[u8], tokens: &'a [Token]) -> Result<Acts<'a>, Fault>
     ensures answers { (more last : Sequence ActionText → State) →
-        Answers result (λ r. run 64 (if r.is_last then last (onto r.list.items Empty) else more (onto r.list.items Empty)) (seen text.now r.rest.now)) (run 64 (Acting Empty more last) (seen text.now tokens.now)) }
+        Reads text.now result (Acting Empty more last) tokens.now
+        (λ r. if r.is_last then last (onto r.list.items Empty) else more (onto r.list.items Empty)) (λ r. r.rest.now) }
     ensures shorter { IfOk result (λ r. length r.rest.now < length tokens.now) }
 {
     let mut read = Acts {
@@ -95,7 +96,9 @@ fn actions<'a>(alloc: Global, text: &[u8], tokens: &'a [Token]) -> Result<Acts<'
 
 fn change<'a>(alloc: Global, text: &[u8], tokens: &'a [Token]) -> Result<ChangeRead<'a>, Fault>
     ensures answers { (changes : Sequence Change) (onward : Sequence Change → State) →
-        Answers result (λ r. run 64 (if r.is_last then onward (More changes (view_change r.change)) else Changing (More changes (view_change r.change)) onward) (seen text.now r.rest.now)) (run 64 (Changing changes onward) (seen text.now tokens.now)) }
+        Reads text.now result (Changing changes onward) tokens.now
+        (λ r. if r.is_last then onward (More changes (view_change r.change))
+        else Changing (More changes (view_change r.change)) onward) (λ r. r.rest.now) }
     ensures shorter { IfOk result (λ r. length r.rest.now < length tokens.now) }
 {
     let (token, behind) = next(tokens)?;
@@ -121,7 +124,8 @@ fn change<'a>(alloc: Global, text: &[u8], tokens: &'a [Token]) -> Result<ChangeR
 #[tactic(auto, using(crate::proofs::Statements::changes_push))]
 fn changes<'a>(alloc: Global, text: &[u8], tokens: &'a [Token]) -> Result<ChangeList<'a>, Fault>
     ensures answers { (onward : Sequence Change → State) →
-        Answers result (λ r. run 64 (onward (onto_by view_change r.list.items Empty)) (seen text.now r.rest.now)) (run 64 (Changing Empty onward) (seen text.now tokens.now)) }
+        Reads text.now result (Changing Empty onward) tokens.now
+        (λ r. onward (onto_by view_change r.list.items Empty)) (λ r. r.rest.now) }
     ensures shorter { IfOk result (λ r. length r.rest.now < length tokens.now) }
 {
     let mut read = ChangeList {
@@ -146,7 +150,8 @@ pub fn exit_statement<'a>(
     tokens: &'a [Token],
 ) -> Result<StatRead<'a>, Fault>
     ensures answers { (st : Stack) (front : Statements) →
-        Answers result (λ r. run 64 (Stats (Then front (view_stat r.tree)) st) (seen text.now r.rest.now)) (run 64 (exit_row at front st) (seen text.now tokens.now)) }
+        Reads text.now result (exit_row at front st) tokens.now
+        (λ r. Stats (Then front (view_stat r.tree)) st) (λ r. r.rest.now) }
     ensures shorter { IfOk result (λ r. length r.rest.now < length tokens.now) }
 {
     let open = expect(tokens, Sign::OpenParen)?;

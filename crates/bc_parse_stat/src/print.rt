@@ -1,13 +1,13 @@
 // The items of a `print`.
 
 ghost use Rattle.std.specs.Prelude.{◌≡◌, ℕ, ◌+◌, ◌-◌, ◌≤◌, ◌<◌, ◌++◌, Bool, true, false, List, [], ◌∷◌, length, IfOk, IfErr, IfSome, IfNone};
-ghost use Rattle.bc_data.specs.Seen.{seen, escaped, meaning};
+ghost use Rattle.bc_data.specs.Seen.{escaped, meaning};
 ghost use Rattle.bc_data.specs.SourceTree.{Sequence, Empty, More, PrintItem, Statements, Then};
 ghost use Rattle.bc_data.specs.View.{view_item, view_stat, onto_by};
 ghost use Rattle.bc_data.specs.declared.token.Sign.TheVariants as sign;
 ghost use Rattle.bc_data.specs.declared.token.TokenKind.TheVariants as token_kind;
-ghost use Rattle.bc_grammar.specs.Machine.{State, Stack, Stats, Never, OnMark, Printing, levels, run, print_behind, print_ends};
-ghost use Rattle.bc_parse_expr.specs.Contract.{Answers, Stops, first_kind};
+ghost use Rattle.bc_law_grammar.specs.Machine.{State, Stack, Stats, Never, OnMark, Printing, levels, run, print_behind, print_ends};
+ghost use Rattle.bc_parse_expr.specs.Contract.{Stops, first_kind, Reads};
 ghost use Rattle.bc_parse_expr.specs.declared.cursor.Fault.TheVariants.{Memory};
 
 use crate::row::StatRead;
@@ -72,8 +72,10 @@ fn print_item<'a>(
     base: u32,
 ) -> Result<ItemRead<'a>, Fault>
     requires base { base < 64 }
-    ensures answers { (items : Sequence PrintItem) (onward : Sequence PrintItem → State) (st : Stack) → levels st ≡ base →
-        Answers result (λ r. run 64 (print_behind (More items (view_item r.item)) onward st) (seen text.now r.rest.now)) (run 64 (Printing items onward st) (seen text.now tokens.now)) }
+    ensures answers { (items : Sequence PrintItem) (onward : Sequence PrintItem → State) (st : Stack) →
+        levels st ≡ base →
+        Reads text.now result (Printing items onward st) tokens.now
+        (λ r. print_behind (More items (view_item r.item)) onward st) (λ r. r.rest.now) }
     ensures shorter { IfOk result (λ r. length r.rest.now < length tokens.now) }
 {
     let (token, behind) = next(tokens)?;
@@ -103,8 +105,10 @@ fn value_item<'a>(
 ) -> Result<ItemRead<'a>, Fault>
     requires base { base < 64 }
     requires value { first_kind tokens.now ≡ token_kind.Text → ⊥ }
-    ensures answers { (items : Sequence PrintItem) (onward : Sequence PrintItem → State) (st : Stack) → levels st ≡ base →
-        Answers result (λ r. run 64 (print_behind (More items (view_item r.item)) onward st) (seen text.now r.rest.now)) (run 64 (Printing items onward st) (seen text.now tokens.now)) }
+    ensures answers { (items : Sequence PrintItem) (onward : Sequence PrintItem → State) (st : Stack) →
+        levels st ≡ base →
+        Reads text.now result (Printing items onward st) tokens.now
+        (λ r. print_behind (More items (view_item r.item)) onward st) (λ r. r.rest.now) }
     ensures shorter { IfOk result (λ r. length r.rest.now < length tokens.now) }
 {
     let value = binary(alloc, text, tokens, base + 1, 7)?;
@@ -124,7 +128,8 @@ fn print_items<'a>(
 ) -> Result<ItemList<'a>, Fault>
     requires base { base < 64 }
     ensures answers { (onward : Sequence PrintItem → State) (st : Stack) → levels st ≡ base →
-        Answers result (λ r. run 64 (onward (onto_by view_item r.list.items Empty)) (seen text.now r.rest.now)) (run 64 (Printing Empty onward st) (seen text.now tokens.now)) }
+        Reads text.now result (Printing Empty onward st) tokens.now
+        (λ r. onward (onto_by view_item r.list.items Empty)) (λ r. r.rest.now) }
     ensures shorter { IfOk result (λ r. length r.rest.now < length tokens.now) }
 {
     let mut read = ItemList {
@@ -157,7 +162,8 @@ pub fn print_statement<'a>(
 ) -> Result<StatRead<'a>, Fault>
     requires base { base < 64 }
     ensures answers { (st : Stack) (front : Statements) → levels st ≡ base →
-        Answers result (λ r. run 64 (Stats (Then front (view_stat r.tree)) st) (seen text.now r.rest.now)) (run 64 (OnMark sign.OpenParen (λ _. Printing Empty (print_ends at front st) st) Never) (seen text.now tokens.now)) }
+        Reads text.now result (OnMark sign.OpenParen (λ _. Printing Empty (print_ends at front st) st) Never) tokens.now
+        (λ r. Stats (Then front (view_stat r.tree)) st) (λ r. r.rest.now) }
     ensures shorter { IfOk result (λ r. length r.rest.now < length tokens.now) }
 {
     let open = expect(tokens, Sign::OpenParen)?;

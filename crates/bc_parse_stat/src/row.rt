@@ -2,13 +2,12 @@
 // around the statement.
 
 ghost use Rattle.std.specs.Prelude.{◌≡◌, ℕ, ◌+◌, ◌≤◌, ◌<◌, Bool, List, [], ◌∷◌, length, IfOk, IfErr, IfSome, IfNone};
-ghost use Rattle.bc_data.specs.Seen.{seen};
 ghost use Rattle.bc_data.specs.SourceTree.{Expression, Statements, Then, Assert};
 ghost use Rattle.bc_data.specs.View.{view, view_stat};
 ghost use Rattle.bc_data.specs.declared.tree.TypeText.{TypeText};
 ghost use Rattle.bc_data.specs.declared.token.Sign.TheVariants as sign;
-ghost use Rattle.bc_grammar.specs.Machine.{State, Stack, Stats, Never, OnMark, levels, run, brackets, let_value, let_row, tag_row, made_row, test_row, return_row};
-ghost use Rattle.bc_parse_expr.specs.Contract.{Answers, Stops, IsMeasured};
+ghost use Rattle.bc_law_grammar.specs.Machine.{State, Stack, Stats, Never, OnMark, levels, run, brackets, let_value, let_row, tag_row, made_row, test_row, return_row};
+ghost use Rattle.bc_parse_expr.specs.Contract.{Stops, IsMeasured, Reads};
 
 use bc_data::run::Place;
 use bc_data::token::{Sign, Token, TokenKind, Word};
@@ -35,7 +34,8 @@ pub struct TypeRead<'a> {
 #[tactic(auto, using(bc_parse_expr::proofs::Rows::not_mark))]
 pub fn type_behind(base: Base, at: Place, tokens: &[Token]) -> Result<TypeRead<'_>, Fault>
     ensures answers { (text : List ℕ) (onward : TypeText → State) →
-        Answers result (λ r. run 64 (onward r.kind) (seen text r.rest.now)) (run 64 (brackets base at onward) (seen text tokens.now)) }
+        Reads text result (brackets base at onward) tokens.now
+        (λ r. onward r.kind) (λ r. r.rest.now) }
     ensures shorter { IfOk result (λ r. length r.rest.now ≤ length tokens.now) }
 {
     let (token, behind) = next(tokens)?;
@@ -73,7 +73,8 @@ pub fn let_behind<'a>(
 ) -> Result<StatRead<'a>, Fault>
     requires base { base < 64 }
     ensures answers { (st : Stack) (front : Statements) → levels st ≡ base →
-        Answers result (λ r. run 64 (Stats (Then front (view_stat r.tree)) st) (seen text.now r.rest.now)) (run 64 (let_value kind name front st) (seen text.now tokens.now)) }
+        Reads text.now result (let_value kind name front st) tokens.now
+        (λ r. Stats (Then front (view_stat r.tree)) st) (λ r. r.rest.now) }
     ensures shorter { IfOk result (λ r. length r.rest.now < length tokens.now) }
 {
     let equals = expect(tokens, Sign::Equals)?;
@@ -94,7 +95,8 @@ pub fn declared_as<'a>(
 ) -> Result<StatRead<'a>, Fault>
     requires base { base < 64 }
     ensures answers { (st : Stack) (front : Statements) → levels st ≡ base →
-        Answers result (λ r. run 64 (Stats (Then front (view_stat r.tree)) st) (seen text.now r.rest.now)) (run 64 (let_row kind front st) (seen text.now tokens.now)) }
+        Reads text.now result (let_row kind front st) tokens.now
+        (λ r. Stats (Then front (view_stat r.tree)) st) (λ r. r.rest.now) }
     ensures shorter { IfOk result (λ r. length r.rest.now < length tokens.now) }
 {
     let name = expect_name(alloc, text, tokens)?;
@@ -112,7 +114,8 @@ pub fn declaration<'a>(
 ) -> Result<StatRead<'a>, Fault>
     requires base { base < 64 }
     ensures answers { (st : Stack) (front : Statements) → levels st ≡ base →
-        Answers result (λ r. run 64 (Stats (Then front (view_stat r.tree)) st) (seen text.now r.rest.now)) (run 64 (brackets kind at (λ kind. let_row kind front st)) (seen text.now tokens.now)) }
+        Reads text.now result (brackets kind at (λ kind. let_row kind front st)) tokens.now
+        (λ r. Stats (Then front (view_stat r.tree)) st) (λ r. r.rest.now) }
     ensures shorter { IfOk result (λ r. length r.rest.now < length tokens.now) }
 {
     let read = type_behind(kind, at, tokens)?;
@@ -127,7 +130,8 @@ pub fn tag_statement<'a>(
     tokens: &'a [Token],
 ) -> Result<StatRead<'a>, Fault>
     ensures answers { (st : Stack) (front : Statements) →
-        Answers result (λ r. run 64 (Stats (Then front (view_stat r.tree)) st) (seen text.now r.rest.now)) (run 64 (tag_row at front st) (seen text.now tokens.now)) }
+        Reads text.now result (tag_row at front st) tokens.now
+        (λ r. Stats (Then front (view_stat r.tree)) st) (λ r. r.rest.now) }
     ensures shorter { IfOk result (λ r. length r.rest.now < length tokens.now) }
 {
     let variable = expect_name(alloc, text, tokens)?;
@@ -155,7 +159,8 @@ pub fn made_statement<'a>(
 ) -> Result<StatRead<'a>, Fault>
     requires base { base + 2 ≤ 64 }
     ensures answers { (st : Stack) (front : Statements) → levels st ≡ base →
-        Answers result (λ r. run 64 (Stats (Then front (view_stat r.tree)) st) (seen text.now r.rest.now)) (run 64 (made_row at front st) (seen text.now tokens.now)) }
+        Reads text.now result (made_row at front st) tokens.now
+        (λ r. Stats (Then front (view_stat r.tree)) st) (λ r. r.rest.now) }
     ensures shorter { IfOk result (λ r. length r.rest.now < length tokens.now) }
 {
     let name = expect_name(alloc, text, tokens)?;
@@ -177,7 +182,8 @@ pub fn test<'a>(
 ) -> Result<ExprRead<'a>, Fault>
     requires base { base < 64 }
     ensures answers { (st : Stack) (onward : Expression → State) → levels st ≡ base →
-        Answers result (λ x. run 64 (onward (view x.tree)) (seen text.now x.rest.now)) (run 64 (test_row onward st) (seen text.now tokens.now)) }
+        Reads text.now result (test_row onward st) tokens.now
+        (λ x. onward (view x.tree)) (λ x. x.rest.now) }
     ensures shorter { IfOk result (λ x. length x.rest.now < length tokens.now) }
 {
     let open = expect(tokens, Sign::OpenParen)?;
@@ -194,7 +200,9 @@ pub fn assert_statement<'a>(
 ) -> Result<StatRead<'a>, Fault>
     requires base { base < 64 }
     ensures answers { (st : Stack) (front : Statements) → levels st ≡ base →
-        Answers result (λ r. run 64 (Stats (Then front (view_stat r.tree)) st) (seen text.now r.rest.now)) (run 64 (test_row (λ e. OnMark sign.Semicolon (λ _. Stats (Then front (Assert at e)) st) Never) st) (seen text.now tokens.now)) }
+        Reads text.now result (test_row
+        (λ e. OnMark sign.Semicolon (λ _. Stats (Then front (Assert at e)) st) Never) st) tokens.now
+        (λ r. Stats (Then front (view_stat r.tree)) st) (λ r. r.rest.now) }
     ensures shorter { IfOk result (λ r. length r.rest.now < length tokens.now) }
 {
     let claim = test(alloc, text, tokens, base)?;
@@ -215,7 +223,8 @@ pub fn return_statement<'a>(
 ) -> Result<StatRead<'a>, Fault>
     requires base { base < 64 }
     ensures answers { (st : Stack) (front : Statements) → levels st ≡ base →
-        Answers result (λ r. run 64 (Stats (Then front (view_stat r.tree)) st) (seen text.now r.rest.now)) (run 64 (return_row at front st) (seen text.now tokens.now)) }
+        Reads text.now result (return_row at front st) tokens.now
+        (λ r. Stats (Then front (view_stat r.tree)) st) (λ r. r.rest.now) }
     ensures shorter { IfOk result (λ r. length r.rest.now < length tokens.now) }
 {
     match accept(tokens, Sign::Semicolon) {

@@ -7,8 +7,8 @@ ghost use Rattle.bc_data.specs.View.{view, view_stat, stat_views};
 ghost use Rattle.bc_data.specs.declared.token.TokenKind.TheVariants as token_kind;
 ghost use Rattle.bc_data.specs.declared.token.Word.TheVariants as word;
 ghost use Rattle.bc_data.specs.declared.token.Sign.TheVariants as sign;
-ghost use Rattle.bc_grammar.specs.Machine.{State, Stack, Body, Stats, levels, run, body_row, braces_row, else_row};
-ghost use Rattle.bc_parse_expr.specs.Contract.{Answers, Stops, first_kind};
+ghost use Rattle.bc_law_grammar.specs.Machine.{State, Stack, Body, Stats, levels, run, body_row, braces_row, else_row};
+ghost use Rattle.bc_parse_expr.specs.Contract.{Answers, Stops, first_kind, Reads};
 ghost use Rattle.bc_parse_stat.specs.Reading.{ClosesTo};
 
 use crate::chain::{named_statement, this_statement};
@@ -53,7 +53,8 @@ fn new_if(at: Place, test: ExprText, body: Vec<StatText>) -> StatText
 
 #[tactic(auto, using(crate::proofs::Lists::view_if_else))]
 fn new_if_else(at: Place, test: ExprText, body: Vec<StatText>, other: Vec<StatText>) -> StatText
-    ensures { view_stat result ≡ IfElse at (view test) (stat_views body.items Nothing) (stat_views other.items Nothing) }
+    ensures { view_stat result ≡ IfElse at (view test) (stat_views body.items Nothing)
+        (stat_views other.items Nothing) }
 {
     StatText::If(at, test, body, Some(other))
 }
@@ -90,7 +91,8 @@ fn row_statement<'a>(
     requires branch { keyword ≡ word.If → ⊥ }
     requires repeat { keyword ≡ word.While → ⊥ }
     ensures answers { (st : Stack) (front : Statements) → levels st ≡ base →
-        Answers result (λ r. run 64 (Stats (Then front (view_stat r.tree)) st) (seen text.now r.rest.now)) (run 64 (Stats front st) (record { kind = Keyword keyword; at = at } ∷ seen text.now tokens.now)) }
+        Answers result (λ r. run 64 (Stats (Then front (view_stat r.tree)) st) (seen text.now r.rest.now))
+        (run 64 (Stats front st) (record { kind = Keyword keyword; at = at } ∷ seen text.now tokens.now)) }
     ensures shorter { IfOk result (λ r. length r.rest.now < length tokens.now) }
 {
     match keyword {
@@ -137,7 +139,8 @@ fn new_statement<'a>(
     requires base { base ≤ 64 }
     requires keyword { token.kind ≡ token_kind.Keyword word.New }
     ensures answers { (st : Stack) (front : Statements) → levels st ≡ base →
-        Answers result (λ r. run 64 (Stats (Then front (view_stat r.tree)) st) (seen text.now r.rest.now)) (run 64 (Stats front st) (seen text.now (token ∷ tokens.now))) }
+        Reads text.now result (Stats front st) (token ∷ tokens.now)
+        (λ r. Stats (Then front (view_stat r.tree)) st) (λ r. r.rest.now) }
     ensures shorter { IfOk result (λ r. length r.rest.now < length tokens.now) }
 {
     check_level(base, 1, token.at)?;
@@ -155,7 +158,8 @@ pub fn statements<'a>(
 ) -> Result<StatList<'a>, Fault>
     requires { base ≤ 64 }
     ensures answers { (st : Stack) (onward : Statements → State) → levels st ≡ base → ClosesTo st onward →
-        Answers result (λ r. run 64 (onward (stat_views r.list.items Nothing)) (seen text.now r.rest.now)) (run 64 (Stats Nothing st) (seen text.now tokens.now)) }
+        Reads text.now result (Stats Nothing st) tokens.now
+        (λ r. onward (stat_views r.list.items Nothing)) (λ r. r.rest.now) }
     ensures shorter { IfOk result (λ r. length r.rest.now < length tokens.now) }
 {
     let mut read = StatList {
@@ -187,7 +191,8 @@ fn statement<'a>(
     requires base { base ≤ 64 }
     requires brace { first_kind tokens.now ≡ token_kind.Mark sign.CloseBrace → ⊥ }
     ensures answers { (st : Stack) (front : Statements) → levels st ≡ base →
-        Answers result (λ r. run 64 (Stats (Then front (view_stat r.tree)) st) (seen text.now r.rest.now)) (run 64 (Stats front st) (seen text.now tokens.now)) }
+        Reads text.now result (Stats front st) tokens.now
+        (λ r. Stats (Then front (view_stat r.tree)) st) (λ r. r.rest.now) }
     ensures shorter { IfOk result (λ r. length r.rest.now < length tokens.now) }
 {
     let (token, behind) = next(tokens)?;
@@ -211,7 +216,8 @@ fn keyword_statement<'a>(
     requires base { base ≤ 64 }
     requires keyword { token.kind ≡ token_kind.Keyword keyword }
     ensures answers { (st : Stack) (front : Statements) → levels st ≡ base →
-        Answers result (λ r. run 64 (Stats (Then front (view_stat r.tree)) st) (seen text.now r.rest.now)) (run 64 (Stats front st) (seen text.now (token ∷ tokens.now))) }
+        Reads text.now result (Stats front st) (token ∷ tokens.now)
+        (λ r. Stats (Then front (view_stat r.tree)) st) (λ r. r.rest.now) }
     ensures shorter { IfOk result (λ r. length r.rest.now < length tokens.now) }
 {
     match keyword {
@@ -234,7 +240,8 @@ fn block<'a>(
     requires base { base ≤ 64 }
     requires brace { token.kind ≡ token_kind.Mark sign.OpenBrace }
     ensures answers { (st : Stack) (front : Statements) → levels st ≡ base →
-        Answers result (λ r. run 64 (Stats (Then front (view_stat r.tree)) st) (seen text.now r.rest.now)) (run 64 (Stats front st) (seen text.now (token ∷ tokens.now))) }
+        Reads text.now result (Stats front st) (token ∷ tokens.now)
+        (λ r. Stats (Then front (view_stat r.tree)) st) (λ r. r.rest.now) }
     ensures shorter { IfOk result (λ r. length r.rest.now < length tokens.now) }
 {
     check_level(base, 0, token.at)?;
@@ -255,7 +262,8 @@ fn braces<'a>(
 ) -> Result<StatList<'a>, Fault>
     requires { base < 64 }
     ensures answers { (st : Stack) (onward : Statements → State) → levels st ≡ base →
-        Answers result (λ r. run 64 (onward (stat_views r.list.items Nothing)) (seen text.now r.rest.now)) (run 64 (braces_row onward st) (seen text.now tokens.now)) }
+        Reads text.now result (braces_row onward st) tokens.now
+        (λ r. onward (stat_views r.list.items Nothing)) (λ r. r.rest.now) }
     ensures shorter { IfOk result (λ r. length r.rest.now < length tokens.now) }
 {
     let open = expect(tokens, Sign::OpenBrace)?;
@@ -273,7 +281,8 @@ fn while_statement<'a>(
     requires base { base ≤ 64 }
     requires keyword { token.kind ≡ token_kind.Keyword word.While }
     ensures answers { (st : Stack) (front : Statements) → levels st ≡ base →
-        Answers result (λ r. run 64 (Stats (Then front (view_stat r.tree)) st) (seen text.now r.rest.now)) (run 64 (Stats front st) (seen text.now (token ∷ tokens.now))) }
+        Reads text.now result (Stats front st) (token ∷ tokens.now)
+        (λ r. Stats (Then front (view_stat r.tree)) st) (λ r. r.rest.now) }
     ensures shorter { IfOk result (λ r. length r.rest.now < length tokens.now) }
 {
     check_level(base, 0, token.at)?;
@@ -296,7 +305,8 @@ fn if_statement<'a>(
     requires base { base ≤ 64 }
     requires keyword { token.kind ≡ token_kind.Keyword word.If }
     ensures answers { (st : Stack) (front : Statements) → levels st ≡ base →
-        Answers result (λ r. run 64 (Stats (Then front (view_stat r.tree)) st) (seen text.now r.rest.now)) (run 64 (Stats front st) (seen text.now (token ∷ tokens.now))) }
+        Reads text.now result (Stats front st) (token ∷ tokens.now)
+        (λ r. Stats (Then front (view_stat r.tree)) st) (λ r. r.rest.now) }
     ensures shorter { IfOk result (λ r. length r.rest.now < length tokens.now) }
 {
     check_level(base, 0, token.at)?;
@@ -317,7 +327,9 @@ fn if_behind<'a>(
 ) -> Result<StatRead<'a>, Fault>
     requires base { base < 64 }
     ensures answers { (st : Stack) (front : Statements) → levels st ≡ base →
-        Answers result (λ r. run 64 (Stats (Then front (view_stat r.tree)) st) (seen text.now r.rest.now)) (run 64 (else_row at (view test) (stat_views body.entry.list.items Nothing) front st) (seen text.now body.entry.rest.now)) }
+        Reads text.now result (else_row at (view test)
+        (stat_views body.entry.list.items Nothing) front st) body.entry.rest.now
+        (λ r. Stats (Then front (view_stat r.tree)) st) (λ r. r.rest.now) }
     ensures shorter { IfOk result (λ r. length r.rest.now ≤ length body.entry.rest.now) }
 {
     match accept_word(body.rest, Word::Else) {
@@ -338,7 +350,8 @@ fn if_behind<'a>(
 /// The body of a task, a method or a constructor, with its braces.
 pub fn body<'a>(alloc: Global, text: &[u8], tokens: &'a [Token]) -> Result<StatList<'a>, Fault>
     ensures answers { (onward : Statements → State) →
-        Answers result (λ r. run 64 (onward (stat_views r.list.items Nothing)) (seen text.now r.rest.now)) (run 64 (body_row onward) (seen text.now tokens.now)) }
+        Reads text.now result (body_row onward) tokens.now
+        (λ r. onward (stat_views r.list.items Nothing)) (λ r. r.rest.now) }
     ensures shorter { IfOk result (λ r. length r.rest.now < length tokens.now) }
 {
     let open = expect(tokens, Sign::OpenBrace)?;

@@ -121,7 +121,7 @@ abbrev pub unplaced : Sequence Item → Sequence Item
 unplaced items = mapped unplaced_item items
 
 -- That the text of a tree that the grammar gives to some text is read as that tree, apart from places. The crate
--- `bc_readback` proves it.
+-- `bc_law_readback` proves it.
 abbrev pub IsReadBack : Type 0
 IsReadBack =
     (n : ℕ) (items : Sequence Item) (source : List ℕ) (tokens : List Token) → AreTokensOf source tokens → IsTreeOf n items (seen source tokens) →

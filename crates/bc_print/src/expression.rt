@@ -82,7 +82,8 @@ fn print_call(
     x: &Named,
     args: &[ExprText],
 ) -> Result<(), AllocError>
-    ensures { OnOk result (out.new ≡ out.old ++ (x.now.name ++ codes "(" ++ arguments_text (views args.now NoArg) ++ codes ")")) }
+    ensures { OnOk result (out.new ≡ out.old
+        ++ (x.now.name ++ codes "(" ++ arguments_text (views args.now NoArg) ++ codes ")")) }
 {
     print_name(out, x)?;
     out.extend_from_slice(b"(")?;

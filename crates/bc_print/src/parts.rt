@@ -197,7 +197,8 @@ impl Part for ActionText {
 
 // Actions in braces.
 fn print_braces(alloc: Global, out: &mut Bytes, actions: &[ActionText]) -> Result<(), AllocError>
-    ensures { OnOk result (out.new ≡ out.old ++ (codes "{" ++ joined action_text (codes ", ") (onto actions.now Empty) ++ codes "}")) }
+    ensures { OnOk result (out.new ≡ out.old
+        ++ (codes "{" ++ joined action_text (codes ", ") (onto actions.now Empty) ++ codes "}")) }
 {
     out.extend_from_slice(b"{")?;
     print_joined(alloc, out, b", ", actions)?;
@@ -227,7 +228,8 @@ impl Part for Bind {
 
 // `with` and what is bound.
 fn print_with(alloc: Global, out: &mut Bytes, binds: &[Bind]) -> Result<(), AllocError>
-    ensures { OnOk result (out.new ≡ out.old ++ (codes " with " ++ joined bind_text (codes " and ") (onto binds.now Empty))) }
+    ensures { OnOk result (out.new ≡ out.old
+        ++ (codes " with " ++ joined bind_text (codes " and ") (onto binds.now Empty))) }
 {
     out.extend_from_slice(b" with ")?;
     print_joined(alloc, out, b" and ", binds)

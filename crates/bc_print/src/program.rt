@@ -46,7 +46,9 @@ fn print_block(
     margin: &[u8],
     body: &[StatText],
 ) -> Result<(), AllocError>
-    ensures { OnOk result (out.new ≡ out.old ++ (codes " {" ++ 10 ∷ [] ++ statements_text (deeper margin.now) (stat_views body.now Nothing) ++ line margin.now (codes "}"))) }
+    ensures { OnOk result (out.new ≡ out.old
+        ++ (codes " {" ++ 10 ∷ [] ++ statements_text (deeper margin.now) (stat_views body.now Nothing)
+        ++ line margin.now (codes "}"))) }
 {
     out.extend_from_slice(b" {\n")?;
     print_body(alloc, out, margin, body)?;
@@ -91,7 +93,8 @@ fn print_member(alloc: Global, out: &mut Bytes, member: &Member) -> Result<(), A
 }
 
 fn print_members(alloc: Global, out: &mut Bytes, members: &[Member]) -> Result<(), AllocError>
-    ensures { OnOk result (out.new ≡ out.old ++ each (member_text (codes "  ")) (onto_by view_member members.now Empty)) }
+    ensures { OnOk result (out.new ≡ out.old
+        ++ each (member_text (codes "  ")) (onto_by view_member members.now Empty)) }
 {
     for member in members {
         print_member(alloc, out, member)?;
@@ -100,7 +103,9 @@ fn print_members(alloc: Global, out: &mut Bytes, members: &[Member]) -> Result<(
 }
 
 fn print_class(alloc: Global, out: &mut Bytes, class: &ClassText) -> Result<(), AllocError>
-    ensures { OnOk result (out.new ≡ out.old ++ braced [] (codes "class " ++ class.now.name.name) (each (member_text (codes "  ")) (onto_by view_member class.now.members.items Empty))) }
+    ensures { OnOk result (out.new ≡ out.old
+        ++ braced [] (codes "class " ++ class.now.name.name)
+        (each (member_text (codes "  ")) (onto_by view_member class.now.members.items Empty))) }
 {
     print_named(out, b"class ", &class.name, b" {\n")?;
     print_members(alloc, out, class.members.as_slice())?;
@@ -114,7 +119,10 @@ fn print_params(alloc: Global, out: &mut Bytes, params: &[ParamText]) -> Result<
 }
 
 fn print_task(alloc: Global, out: &mut Bytes, task: &TaskText) -> Result<(), AllocError>
-    ensures { OnOk result (out.new ≡ out.old ++ braced [] (codes "task " ++ task.now.name.name ++ codes "(" ++ joined param_text (codes ", ") (onto_by view_param task.now.params.items Empty) ++ codes ")") (statements_text (codes "  ") (stat_views task.now.body.items Nothing))) }
+    ensures { OnOk result (out.new ≡ out.old
+        ++ braced [] (codes "task " ++ task.now.name.name ++ codes "("
+        ++ joined param_text (codes ", ") (onto_by view_param task.now.params.items Empty) ++ codes ")")
+        (statements_text (codes "  ") (stat_views task.now.body.items Nothing))) }
 {
     print_named(out, b"task ", &task.name, b"(")?;
     print_params(alloc, out, task.params.as_slice())?;

@@ -38,7 +38,8 @@ fn print_value_line(
     e: &ExprText,
     behind: &[u8],
 ) -> Result<(), AllocError>
-    ensures { OnOk result (out.new ≡ out.old ++ line margin.now (before.now ++ expression_text (view e.now) ++ behind.now)) }
+    ensures { OnOk result (out.new ≡ out.old
+        ++ line margin.now (before.now ++ expression_text (view e.now) ++ behind.now)) }
 {
     out.extend_from_slice(margin)?;
     print_between(alloc, out, before, e, behind)?;
@@ -52,7 +53,8 @@ fn print_let(
     x: &Formal,
     e: &ExprText,
 ) -> Result<(), AllocError>
-    ensures { OnOk result (out.new ≡ out.old ++ line margin.now (formal_text x.now ++ codes " = " ++ expression_text (view e.now) ++ codes ";")) }
+    ensures { OnOk result (out.new ≡ out.old
+        ++ line margin.now (formal_text x.now ++ codes " = " ++ expression_text (view e.now) ++ codes ";")) }
 {
     out.extend_from_slice(margin)?;
     x.print(alloc, out)?;
@@ -60,7 +62,8 @@ fn print_let(
 }
 
 fn print_tag(out: &mut Bytes, margin: &[u8], x: &Named, kind: &Named) -> Result<(), AllocError>
-    ensures { OnOk result (out.new ≡ out.old ++ line margin.now (codes "tag " ++ x.now.name ++ codes " = new tag(" ++ kind.now.name ++ codes ");")) }
+    ensures { OnOk result (out.new ≡ out.old
+        ++ line margin.now (codes "tag " ++ x.now.name ++ codes " = new tag(" ++ kind.now.name ++ codes ");")) }
 {
     out.extend_from_slice(margin)?;
     print_named(out, b"tag ", x, b" = new tag(")?;
@@ -74,7 +77,9 @@ fn print_assign(
     target: &ExprText,
     e: &ExprText,
 ) -> Result<(), AllocError>
-    ensures { OnOk result (out.new ≡ out.old ++ line margin.now (expression_text (view target.now) ++ codes " = " ++ expression_text (view e.now) ++ codes ";")) }
+    ensures { OnOk result (out.new ≡ out.old
+        ++ line margin.now (expression_text (view target.now) ++ codes " = " ++ expression_text (view e.now)
+        ++ codes ";")) }
 {
     out.extend_from_slice(margin)?;
     print_expression(alloc, out, target)?;
@@ -87,7 +92,9 @@ fn print_items(
     margin: &[u8],
     items: &[ItemText],
 ) -> Result<(), AllocError>
-    ensures { OnOk result (out.new ≡ out.old ++ line margin.now (codes "print(" ++ joined print_item_text (codes ", ") (onto_by view_item items.now Empty) ++ codes ");")) }
+    ensures { OnOk result (out.new ≡ out.old
+        ++ line margin.now (codes "print(" ++ joined print_item_text (codes ", ") (onto_by view_item items.now Empty)
+        ++ codes ");")) }
 {
     out.extend_from_slice(margin)?;
     out.extend_from_slice(b"print(")?;
@@ -101,7 +108,9 @@ fn print_exit(
     margin: &[u8],
     changes: &[ChangeText],
 ) -> Result<(), AllocError>
-    ensures { OnOk result (out.new ≡ out.old ++ line margin.now (codes "taskexit(" ++ joined change_text (codes "; ") (onto_by view_change changes.now Empty) ++ codes ");")) }
+    ensures { OnOk result (out.new ≡ out.old
+        ++ line margin.now (codes "taskexit("
+        ++ joined change_text (codes "; ") (onto_by view_change changes.now Empty) ++ codes ");")) }
 {
     out.extend_from_slice(margin)?;
     out.extend_from_slice(b"taskexit(")?;

@@ -3,22 +3,17 @@
 ghost use Rattle.std.specs.Prelude.{◌≤◌, length};
 
 use bc_data::list::Bytes;
-use bc_lex::tokens;
-use bc_parse::parse;
 use bc_print::print_tree;
+use bc_read::reader::read_tree;
 use std::alloc::Global;
 use std::process::Abort;
 use std::test::Fail;
 
 /// The canonical text of a text that has a tree.
-#[tactic(auto, using(bc_parse::proofs::Lexed::ended))]
 fn printed(alloc: Global, text: &[u8]) -> Result<Bytes, Fail>
     requires { length text.now ≤ 1048576 }
 {
-    let Ok(found) = tokens(alloc, text) else {
-        return Err("a text has tokens".into());
-    };
-    match parse(alloc, text, &found) {
+    match read_tree(alloc, text) {
         Ok(tree) => Ok(print_tree(alloc, &tree)?),
         Err(_) => Err("a text has a tree".into()),
     }

@@ -11,9 +11,9 @@ use Rattle.bc_lex.specs.declared.lexer.LexFault.{LexFault}
 use Rattle.bc_lex.specs.declared.lexer.LexFault.TheVariants as lex_fault
 use Rattle.bc_parse.specs.declared.ParseFault.{ParseFault}
 use Rattle.bc_parse.specs.declared.ParseFault.TheVariants as parse_fault
-use Rattle.bc_rules.specs.Got as rules
+use Rattle.bc_types_rules.specs.Got as rules
 use Rattle.bc_data.specs.Typed.{TypedProgram}
-use Rattle.bc_rules.specs.Walk.{Accepts, HasTypeFault}
+use Rattle.bc_types_rules.specs.Walk.{Accepts, HasTypeFault}
 use Rattle.bc_names.specs.declared.fault.TypeKind.{TypeKind}
 use Rattle.bc_names.specs.declared.fault.TypeKind.TheVariants as type_kind
 use Rattle.bc_names.specs.declared.fault.TypeFault.{TypeFault}

@@ -2,7 +2,6 @@
 
 ghost use Rattle.std.specs.Prelude.{◌≡◌, ◌≤◌, length, IfOk, IfErr};
 ghost use Rattle.bc_data.specs.View.{view_tree};
-ghost use Rattle.bc_data.specs.ProgramView.{view_program};
 ghost use Rattle.bc_read.specs.Reading.{IsText, IsProgramText, IsFault, IsLexicalFault, IsGrammarFault, refused_as, fault_of_types};
 
 use bc_data::program::Program;
@@ -68,8 +67,12 @@ fn mistyped(fault: TypeFault) -> TextFault
     }
 }
 
-// The tree of a text, within 64 levels.
-fn read_tree(alloc: Global, text: &[u8]) -> Result<Tree, TextFault>
+/// The tree of a text, within 64 levels.
+///
+/// # Errors
+///
+/// The first fault of the text's tokens, else the first token that is refused; or `Memory`.
+pub fn read_tree(alloc: Global, text: &[u8]) -> Result<Tree, TextFault>
     requires { length text.now ≤ 1048576 }
     ensures tree { IfOk result (λ tree. IsText text.now (view_tree tree)) }
     ensures fault { IfErr result (λ fault. IsFault text.now fault) }
@@ -96,10 +99,9 @@ pub struct ProgramText {
 ///
 /// The first fault of the text's tokens, else the first token that is refused, else the first fault of names and types;
 /// or `Memory`.
-#[tactic(auto, using(crate::proofs::Reading::text_is_grammatical))]
 pub fn read_program(alloc: Global, text: &[u8]) -> Result<ProgramText, TextFault>
     requires { length text.now ≤ 1048576 }
-    ensures program { IfOk result (λ r. IsProgramText text.now (view_tree r.tree) (view_program r.program)) }
+    ensures program { IfOk result (λ r. IsProgramText text.now (view_tree r.tree) r.program) }
     ensures fault { IfErr result (λ fault. IsFault text.now fault) }
 {
     let tree = read_tree(alloc, text)?;

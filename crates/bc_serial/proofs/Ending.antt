@@ -21,14 +21,14 @@ use Rattle.bc_code.specs.Given.{given_look, ids_of}
 use Rattle.bc_step.specs.Area.{AgreesWith, AreaParts, given_of}
 use Rattle.bc_machine.specs.declared.machine.Ended.TheVariants as ended
 use Rattle.bc_machine.specs.Whole.{ComesTo}
-use Rattle.bc_events.specs.declared.answers.Commit.{Commit}
-use Rattle.bc_events.specs.declared.answers.Failing.{Failing}
-use Rattle.bc_events.specs.declared.answers.Taken.TheVariants as taken
-use Rattle.bc_events.specs.Book.{BookState}
-use Rattle.bc_events.specs.Events.{Step, commit, commit_unless, commit_unmoved, fail, fail_unmoved, first_moved, is_moved}
-use Rattle.bc_events.specs.Turns.{ends, runs_taken}
-use Rattle.bc_events.proofs.Unmoved.{body_itself, none_moved}
-use Rattle.bc_runs.specs.Areas.{WasEnabled, changes_of}
+use Rattle.bc_book_events.specs.declared.answers.Commit.{Commit}
+use Rattle.bc_book_events.specs.declared.answers.Failing.{Failing}
+use Rattle.bc_book_events.specs.declared.answers.Taken.TheVariants as taken
+use Rattle.bc_book_events.specs.Book.{BookState}
+use Rattle.bc_book_events.specs.Events.{Step, commit, commit_unless, commit_unmoved, fail, fail_unmoved, first_moved, is_moved}
+use Rattle.bc_book_events.specs.Turns.{ends, runs_taken}
+use Rattle.bc_book_events.proofs.Unmoved.{body_itself, none_moved}
+use Rattle.bc_law_core.specs.Areas.{WasEnabled, changes_of}
 use Rattle.bc_book.specs.Ends.{commits, fails}
 
 -- a body that was given is the store's

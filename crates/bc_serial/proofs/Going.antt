@@ -4,16 +4,17 @@ use Rattle.std.specs.Prelude.{is_some, slice_set}
 use Rattle.std.specs.List.{list_any}
 use Rattle.std.specs.Option.{option_or}
 use Rattle.std.proofs.lemmas.Bool.{true≢false}
-use Rattle.bc_data.specs.Program.{Parts}
+use Rattle.bc_data.specs.Typed.{TypedProgram}
 use Rattle.bc_data.specs.declared.run.Invocation.{Invocation}
 use Rattle.bc_data.specs.declared.run.Stop.{Stop}
 use Rattle.bc_data.specs.declared.run.Stop.TheVariants as stop
 use Rattle.bc_mean.specs.Serial.{Course, serial_step, serial_steps}
-use Rattle.bc_events.specs.Book.{BookState, held_by}
-use Rattle.bc_events.specs.Events.{given_up, halt}
-use Rattle.bc_events.specs.Steps.{given, put_back, stopped}
-use Rattle.bc_events.specs.Turns.{IsAt, IsSameRun, turn}
-use Rattle.bc_events.proofs.Turns.{turns_are_steps}
+use Rattle.bc_book_events.specs.Book.{BookState, held_by}
+use Rattle.bc_book_events.specs.Events.{given_up, halt}
+use Rattle.bc_book_events.specs.Steps.{given, put_back, stopped}
+use Rattle.bc_book_events.specs.Turns.{IsAt, IsSameRun, turn}
+use Rattle.bc_book_events.proofs.SameRun.{same_then}
+use Rattle.bc_book_events.proofs.Turns.{turns_are_steps}
 use Rattle.bc_book.proofs.Events.{halt_as}
 use Rattle.bc_serial.specs.Run.{Finishes, HasTaken, course_after, course_of, stop_of}
 use Rattle.bc_serial.proofs.Taking.{any, is_taken, taken_held}
@@ -25,12 +26,9 @@ pub record GoesOn (b d : BookState) : Type 0 where
   pub at : IsAt d (course_after b steps)
 
 -- one step behind many
-last_step : (P : Parts) (limit n : ℕ) (r : Course) → serial_step P limit (serial_steps P limit n r) ≡ serial_steps P limit (suc n) r
+last_step : (P : TypedProgram) (limit n : ℕ) (r : Course) → serial_step P limit (serial_steps P limit n r) ≡ serial_steps P limit (suc n) r
 last_step P limit zero r = refl
 last_step P limit (suc n) r = last_step P limit n (serial_step P limit r)
-
-same_then : (b d e : BookState) → IsSameRun b d → IsSameRun d e → IsSameRun b e
-same_then b d e h k = record { program = k.program ∙ h.program; input = k.input ∙ h.input; limit = k.limit ∙ h.limit; workers = k.workers ∙ h.workers }
 
 pub turn_more : (b d : BookState) → GoesOn b d → GoesOn b (turn 0 d)
 turn_more b d g =
@@ -40,7 +38,7 @@ turn_more b d g =
       same = same_then b d (turn 0 d) g.same (turns_are_steps.same 0 d);
       at =
           subst (IsAt (turn 0 d)) (last_step b.program b.limit g.steps (course_of b))
-          (subst (λ (P : Parts). IsAt (turn 0 d) (serial_step P b.limit r)) g.same.program
+          (subst (λ (P : TypedProgram). IsAt (turn 0 d) (serial_step P b.limit r)) g.same.program
           (subst (λ (limit : ℕ). IsAt (turn 0 d) (serial_step d.program limit r)) g.same.limit (turns_are_steps.one 0 d r g.at)));
     }
 

@@ -4,20 +4,19 @@ use Rattle.std.specs.Prelude.{slice_get}
 use Rattle.std.specs.List.{AllByRecursion, cons_option, filter_map}
 use Rattle.std.proofs.lemmas.List.Elements.{recursion_from_All}
 use Rattle.std.proofs.lemmas.Option.{slice_get_cases}
-use Rattle.bc_data.specs.ProgramView.{view_program}
 use Rattle.bc_data.specs.declared.run.Body.{Body}
 use Rattle.bc_data.specs.declared.run.Invocation.{Invocation}
 use Rattle.bc_mean.specs.Enabled.{IsEnabled}
-use Rattle.bc_replay.proofs.Replaying.{replay_fits}
+use Rattle.bc_law_histories.proofs.Replaying.{replay_fits}
 use Rattle.bc_code.specs.declared.code.Code.{Code}
 use Rattle.bc_code.specs.Translation.{Translates}
 use Rattle.bc_machine.specs.Running.{AreBodiesOf, IsRunOf}
 use Rattle.bc_machine.proofs.Known.{objects_there}
-use Rattle.bc_events.specs.declared.answers.Begun.{Begun}
-use Rattle.bc_events.specs.declared.answers.Begun.TheVariants as begins
-use Rattle.bc_events.specs.Book.{BookState, held_by}
-use Rattle.bc_events.specs.Events.{Step, answers, begin}
-use Rattle.bc_events.specs.Sound.{IsSoundBook}
+use Rattle.bc_book_events.specs.declared.answers.Begun.{Begun}
+use Rattle.bc_book_events.specs.declared.answers.Begun.TheVariants as begins
+use Rattle.bc_book_events.specs.Book.{BookState, held_by}
+use Rattle.bc_book_events.specs.Events.{Step, answers, begin}
+use Rattle.bc_book_events.specs.Sound.{IsSoundBook}
 use Rattle.bc_book.proofs.Events.{begin_as}
 
 -- each of these objects has a body
@@ -49,7 +48,7 @@ module _ (b : BookState) (v : Invocation) (enabled : IsEnabled b.program b.store
       all_there b.store.bodies v.objects (recursion_from_All (λ id. id < length b.store.bodies) v.objects (objects_there b.program b.store v enabled))
       ∙ ap (map (λ (x : Body). Some x)) same
 
-  pub is_run : (code : Code) → IsSoundBook b → Translates (view_program b.program) code → IsRunOf b.program b.store code v
+  pub is_run : (code : Code) → IsSoundBook b → Translates b.program code → IsRunOf b.program b.store code v
   is_run code sound translated = record {
     well_typed = sound.typed;
     translated = translated;

@@ -12,11 +12,11 @@ use Rattle.bc_mean.specs.Changes.{apply_changes}
 use Rattle.bc_mean.specs.Enabled.{all_enabled}
 use Rattle.bc_mean.specs.Outcome.{outcome}
 use Rattle.bc_mean.specs.Serial.{Course, committed, is_crowded, serial_step, step_pending, step_ran, step_unless, stopped}
-use Rattle.bc_events.specs.Book.{BookState}
-use Rattle.bc_events.specs.Sound.{IsSoundBook}
-use Rattle.bc_events.specs.Turns.{IsAt, IsSameRun, turn}
-use Rattle.bc_events.proofs.Counted.{enabled_counted}
-use Rattle.bc_events.proofs.Turns.{turns_are_steps}
+use Rattle.bc_book_events.specs.Book.{BookState}
+use Rattle.bc_book_events.specs.Sound.{IsSoundBook}
+use Rattle.bc_book_events.specs.Turns.{IsAt, IsSameRun, turn}
+use Rattle.bc_book_events.proofs.Counted.{enabled_counted}
+use Rattle.bc_book_events.proofs.Turns.{turns_are_steps}
 use Rattle.bc_serial.specs.Run.{course_of}
 
 -- Nothing is left to do where a stop is set. Elsewhere there is one turn at most for each pending invocation, and for each commit

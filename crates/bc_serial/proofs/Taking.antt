@@ -6,7 +6,6 @@ use Rattle.std.specs.Set.{remove_key}
 use Rattle.std.proofs.lemmas.Bool.{and_from, lt-ltb}
 use Rattle.std.proofs.lemmas.List.{get_or-replicate, length-map}
 use Rattle.std.proofs.lemmas.Option.{slice_get_within}
-use Rattle.bc_data.specs.ProgramView.{view_task}
 use Rattle.bc_data.specs.declared.run.Invocation.{Invocation}
 use Rattle.bc_data.specs.declared.run.Stop.{Stop}
 use Rattle.bc_data.specs.declared.run.Stop.TheVariants as stop
@@ -14,17 +13,17 @@ use Rattle.bc_mean.specs.Enabled.{IsEnabled, is_enabled}
 use Rattle.bc_mean.specs.Serial.{listed}
 use Rattle.bc_mean.proofs.Lists.{each_weaker}
 use Rattle.bc_pending.specs.Lists.{is_allowed}
-use Rattle.bc_events.specs.declared.answers.Taken.{Taken}
-use Rattle.bc_events.specs.declared.answers.Taken.TheVariants as taken
-use Rattle.bc_events.specs.Book.{BookState, held_by, is_at_rest}
-use Rattle.bc_events.specs.Events.{Step, answers, take, take_found, take_unless}
-use Rattle.bc_events.specs.Sound.{IsSoundBook}
-use Rattle.bc_events.specs.Steps.{given, stopped}
-use Rattle.bc_events.specs.Turns.{runs_taken, turn}
-use Rattle.bc_events.proofs.Exact.{each_itself, ready}
-use Rattle.bc_events.proofs.Members.{found_listed}
-use Rattle.bc_events.proofs.Named.{enabled_names}
-use Rattle.bc_events.proofs.Running.{held_same}
+use Rattle.bc_book_events.specs.declared.answers.Taken.{Taken}
+use Rattle.bc_book_events.specs.declared.answers.Taken.TheVariants as taken
+use Rattle.bc_book_events.specs.Book.{BookState, held_by, is_at_rest}
+use Rattle.bc_book_events.specs.Events.{Step, answers, take, take_found, take_unless}
+use Rattle.bc_book_events.specs.Sound.{IsSoundBook}
+use Rattle.bc_book_events.specs.Steps.{given, stopped}
+use Rattle.bc_book_events.specs.Turns.{runs_taken, turn}
+use Rattle.bc_book_events.proofs.Exact.{each_itself, ready}
+use Rattle.bc_book_events.proofs.Members.{found_listed}
+use Rattle.bc_book_events.proofs.Named.{enabled_names}
+use Rattle.bc_book_events.proofs.Running.{held_same}
 use Rattle.bc_serial.specs.Run.{HasTaken}
 
 -- any pending one will do
@@ -61,7 +60,7 @@ module _ (b : BookState) (sound : IsSoundBook b) where
   all_allowed v on =
       let named = enabled_names.enabled b.program b.store v sound.typed on in
       let within = slice_get_within b.program.tasks v.task named.task named.here in
-      let below : v.task < 256 = omega (arith, within, sound.typed.few_tasks, length-map b.program.tasks view_task) in
+      let below : v.task < 256 = omega (arith, within, sound.typed.few_tasks) in
       and_from (nat_lt v.task 256) (slice_index_or (replicate 256 true) v.task false) (lt-ltb v.task 256 below) (get_or-replicate 256 v.task true false below)
 
   pub takes_first : (tasks : List Bool) → tasks ≡ replicate 256 true → take 0 (is_allowed tasks) b ≡ take 0 any b

@@ -1,11 +1,11 @@
--- What is known of a run from the start that has finished.
+-- What is known of a run that is over.
 use Rattle.std.proofs.Common.{◌≡◌, ℕ, Bool, true, false, not, ◌&&◌, ◌==◌, cond, inl, inr, List, [], ◌∷◌, get_or, length, map, Option, Some, None, refl, sym, ap, subst, ◌∙◌, arith}
 use Rattle.std.specs.Prelude.{is_some}
 use Rattle.std.specs.List.{AllByRecursion, list_any}
 use Rattle.std.proofs.lemmas.Bool.{and_parts, eqb-true, false≢true, false_from_ne_true, or_cases, true≢false}
 use Rattle.std.proofs.lemmas.List.Elements.{All-from_recursion, recursion_from_All}
 use Rattle.std.proofs.lemmas.Option.{same_Some}
-use Rattle.bc_data.specs.Program.{Parts}
+use Rattle.bc_data.specs.Typed.{TypedProgram}
 use Rattle.bc_data.specs.declared.run.Invocation.{Invocation}
 use Rattle.bc_data.specs.declared.run.Stop.{Stop}
 use Rattle.bc_data.specs.declared.run.Stop.TheVariants as stop
@@ -15,16 +15,19 @@ use Rattle.bc_mean.specs.Orders.{precedes}
 use Rattle.bc_mean.specs.Serial.{Failed, has_failure, listed, replay, same_invocation}
 use Rattle.bc_mean.proofs.Enabled.{all_ascending, all_exact}
 use Rattle.bc_mean.proofs.Orders.{one_ascending, same_true}
-use Rattle.bc_failed.specs.declared.entry.Failure.{Failure}
+use Rattle.bc_data.specs.declared.run.Failure.{Failure}
 use Rattle.bc_failed.specs.Laws.{Once}
 use Rattle.bc_failed.specs.Ordered.{failure_of, ordered, put}
 use Rattle.bc_failed.proofs.Ordered.{order_ascends, order_exact}
-use Rattle.bc_events.specs.Book.{BookState, is_at_rest, is_running}
-use Rattle.bc_events.specs.Sound.{IsSoundBook, StillFails, StopTells}
-use Rattle.bc_events.specs.SoundLaws.{book_at_start}
-use Rattle.bc_events.proofs.Sound.{ends_quiet}
-use Rattle.bc_serial.specs.Laws.{RunsFromStart}
+use Rattle.bc_book_events.specs.Book.{BookState, is_at_rest, is_running}
+use Rattle.bc_book_events.specs.Sound.{IsSoundBook, StillFails, StopTells}
+use Rattle.bc_book_events.specs.SoundLaws.{book_at_start}
+use Rattle.bc_book_events.proofs.SameRun.{machine_keeps_run}
+use Rattle.bc_book_events.proofs.Sound.{ends_quiet}
+use Rattle.bc_law_core.proofs.Sound.{core_is_sound}
+use Rattle.bc_serial.specs.Laws.{RunsFromStart, StopsTell, WorkersTell}
 use Rattle.bc_serial.specs.Run.{IsEnd, IsFaultOf, Tells, course_after}
+use Rattle.bc_serial.specs.Told.{TellsTruth}
 
 -- what holds of each failure holds of each in order
 each_put : (Q : Failure → Type 0) (f : Failure) (gs : List Failure) → Q f → AllByRecursion Q gs → AllByRecursion Q (put f gs)
@@ -39,11 +42,11 @@ each_ordered : (Q : Failure → Type 0) (fs : List Failed) → AllByRecursion (�
 each_ordered Q [] a = tt
 each_ordered Q (f ∷ fs) a = each_put Q (failure_of f) (ordered fs) a.0 (each_ordered Q fs a.1)
 
-each_weaker_failed : (P : Parts) (S : Plain) (fs : List Failed) → AllByRecursion (StillFails P S) fs → AllByRecursion (λ f. IsFaultOf P S (failure_of f)) fs
+each_weaker_failed : (P : TypedProgram) (S : Plain) (fs : List Failed) → AllByRecursion (StillFails P S) fs → AllByRecursion (λ f. IsFaultOf P S (failure_of f)) fs
 each_weaker_failed P S [] a = tt
 each_weaker_failed P S (f ∷ fs) a = (record { fault = a.0.fault; faults = a.0.faults; alike = a.0.alike }, each_weaker_failed P S fs a.1)
 
-failed_enabled : (P : Parts) (S : Plain) (fs : List Failed) (v : Invocation) → AllByRecursion (StillFails P S) fs → has_failure fs v ≡ true → is_enabled P S v ≡ true
+failed_enabled : (P : TypedProgram) (S : Plain) (fs : List Failed) (v : Invocation) → AllByRecursion (StillFails P S) fs → has_failure fs v ≡ true → is_enabled P S v ≡ true
 failed_enabled P S [] v a h = absurd (false≢true h)
 failed_enabled P S (f ∷ fs) v a h = elim (or_cases (same_invocation v f.v) (has_failure fs v) h) [
   | inl e ↦ subst (λ (w : Invocation). is_enabled P S w ≡ true) (sym (same_true v f.v e)) a.0.enabled
@@ -115,9 +118,25 @@ runs_from_start P input limit workers d s finishes sound e =
       replayed =
           subst (λ (S : Plain). replay P input d.history ≡ Some S) finishes.store
           (subst (λ (i : List ℕ). replay P i d.history ≡ Some d.store) finishes.same.input
-          (subst (λ (Q : Parts). replay Q d.input d.history ≡ Some d.store) finishes.same.program sound.replayed));
+          (subst (λ (Q : TypedProgram). replay Q d.input d.history ≡ Some d.store) finishes.same.program sound.replayed));
       tells =
           subst (λ (S : Plain). Tells P limit S d.history failures s) finishes.store
           (subst (λ (n : ℕ). Tells P n d.store d.history failures s) finishes.same.limit
-          (subst (λ (Q : Parts). Tells Q d.limit d.store d.history failures s) finishes.same.program (tells d sound finishes.idle s e)));
+          (subst (λ (Q : TypedProgram). Tells Q d.limit d.store d.history failures s) finishes.same.program (tells d sound finishes.idle s e)));
     }
+
+pub stops_tell : StopsTell
+stops_tell b s sound idle e = record {
+  replayed = sound.replayed;
+  within = sound.within;
+  tells = tells b sound idle s e;
+}
+
+pub workers_tell : WorkersTell
+workers_tell P input limit workers core s typed bytes short run idle e =
+    let b = core.book in
+    let same = machine_keeps_run.reached P input limit workers core run in
+    let told = stops_tell b s (core_is_sound.reached P input limit workers core typed bytes short run).book idle e in
+    subst (λ (Q : TypedProgram). TellsTruth Q input limit b.store b.history (ordered b.failures) s) same.program
+    (subst (λ (i : List ℕ). TellsTruth b.program i limit b.store b.history (ordered b.failures) s) same.input
+    (subst (λ (n : ℕ). TellsTruth b.program b.input n b.store b.history (ordered b.failures) s) same.limit told))

@@ -2,9 +2,8 @@
 
 ghost use Rattle.std.specs.Prelude.{◌≡◌, ◌<◌, false, length, is_some, OnOk, OnErr};
 ghost use Rattle.std.specs.List.{list_any};
-ghost use Rattle.bc_data.specs.ProgramView.{view_program};
 ghost use Rattle.bc_code.specs.Translation.{Translates};
-ghost use Rattle.bc_events.specs.Events.{halt};
+ghost use Rattle.bc_book_events.specs.Events.{halt};
 ghost use Rattle.bc_serial.specs.Run.{Finishes};
 
 use crate::turn::turn;
@@ -24,7 +23,7 @@ fn turns<L: Ledger>(
     code: &Code,
     blank: Blank,
 ) -> Result<(), AllocError>
-    requires code { Translates (view_program book.old.program) code.now }
+    requires code { Translates book.old.program code.now }
     requires worker { 0 < length book.old.running }
     requires idle { list_any is_some book.old.running ≡ false }
     requires name { blank.name ≡ L.name }
@@ -46,7 +45,7 @@ fn turns<L: Ledger>(
 /// Runs pending invocations one by one, as worker 0, until the run is over. The code is the program's, and no worker has
 /// anything. Where memory is wanting, the run is over by that.
 pub fn finish(alloc: Global, book: &mut Book, code: &Code)
-    requires code { Translates (view_program book.old.program) code.now }
+    requires code { Translates book.old.program code.now }
     requires idle { list_any is_some book.old.running ≡ false }
     ensures { Finishes book.old book.new }
 {

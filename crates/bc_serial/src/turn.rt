@@ -2,21 +2,20 @@
 
 ghost use Rattle.std.specs.Prelude.{◌≡◌, ◌<◌, false, length, is_some, Some, OnOk, OnErr};
 ghost use Rattle.std.specs.List.{list_any};
-ghost use Rattle.bc_data.specs.ProgramView.{view_program};
 ghost use Rattle.bc_mean.specs.Enabled.{IsEnabled};
 ghost use Rattle.bc_code.specs.Translation.{Translates};
 ghost use Rattle.bc_machine.specs.Whole.{ComesTo};
-ghost use Rattle.bc_events.specs.Book.{held_by};
-ghost use Rattle.bc_events.specs.Turns.{runs_taken, turn};
-ghost use Rattle.bc_events.specs.declared.answers.Taken.TheVariants as taken;
+ghost use Rattle.bc_book_events.specs.Book.{held_by};
+ghost use Rattle.bc_book_events.specs.Turns.{runs_taken, turn};
+ghost use Rattle.bc_book_events.specs.declared.answers.Taken.TheVariants as taken;
 ghost use Rattle.bc_serial.specs.Run.{HasTaken};
 
 use crate::machine::run_over;
 use bc_book::book::Book;
+use bc_book_events::{Begun, Taken};
 use bc_code::code::Code;
 use bc_data::run::Invocation;
 use bc_data::task_set::TaskSet;
-use bc_events::{Begun, Taken};
 use bc_machine::machine::{Ended, Machine};
 use bc_step::area::Area;
 use bc_steps::Steps;
@@ -59,7 +58,7 @@ fn run_taken<L: Ledger>(
     machine: &mut Machine,
     steps: &mut Steps<L>,
 ) -> Result<(), AllocError>
-    requires code { Translates (view_program book.old.program) code.now }
+    requires code { Translates book.old.program code.now }
     requires holds { held_by book.old.running 0 ≡ Some v }
     requires enabled { IsEnabled book.old.program book.old.store v }
     ensures ok { OnOk result (book.new ≡ runs_taken (taken.Got v) 0 book.old) }
@@ -82,7 +81,7 @@ pub fn turn<L: Ledger>(
     machine: &mut Machine,
     steps: &mut Steps<L>,
 ) -> Result<(), AllocError>
-    requires code { Translates (view_program book.old.program) code.now }
+    requires code { Translates book.old.program code.now }
     requires worker { 0 < length book.old.running }
     requires idle { list_any is_some book.old.running ≡ false }
     ensures ok { OnOk result (book.new ≡ turn 0 book.old) }

@@ -20,6 +20,11 @@ ids_held [] gs len = refl
 ids_held (k ∷ ks) [] len = absurd (omega (arith, len))
 ids_held (k ∷ ks) (g ∷ gs) len = ap (λ (l : List ℕ). k ∷ l) (ids_held ks gs (omega (arith, len)))
 
+pub held_long : (ids : List ℕ) (gs : List Given) → length ids ≡ length gs → length (held_of ids gs) ≡ length ids
+held_long [] gs len = refl
+held_long (k ∷ ks) [] len = absurd (omega (arith, len))
+held_long (k ∷ ks) (g ∷ gs) len = ap (λ (n : ℕ). suc n) (held_long ks gs (omega (arith, len)))
+
 -- whether it was given
 pub has_held : (id : ℕ) (ids : List ℕ) (gs : List Given) → length ids ≡ length gs → list_any (λ k. id == k) ids ≡ is_given id (held_of ids gs)
 has_held id ids gs len = any_flip id ids ∙ ap (λ (l : List ℕ). list_any (λ k. k == id) l) (sym (ids_held ids gs len))

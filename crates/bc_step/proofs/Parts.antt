@@ -326,7 +326,7 @@ stays_put s t a b same e = record {
         ∙ ap (λ t. record { changed = cs; made = a.made; instances = a.instances; text = t; turns = turns; touched = ts }) same.text
 
 pub kept_by : (a b : AreaParts) (o : ObjectRef) (c : Body) → HasNow a b o c → KeepsGiven a b
-kept_by a b o c h = record { invocation = h.invocation; given = h.given }
+kept_by a b o c h = record { invocation = h.invocation; given = h.given; spare = omega (arith, h.spare) }
 
 pub faults_so : {A : Type 0} (s t : State) (a b : AreaParts) (did : Answer) (p : Place) (kind : FaultKind) (m : Work → Got A) (k : A → Work → Did) (d : Did) (cs : List Written) (ts : List ℕ)
     → d ≡ goes (m (work_with a s.turns cs ts)) k → Halts (halt.Fault (record { kind = kind; at = p })) a m

@@ -26,11 +26,11 @@ pub settle : (o : Option Answer) (s t : State) (a b : AreaParts) (cs : List Writ
 settle o s t a b cs d e copies h = subst (λ (x : AreaParts). AnswersIf o s a t x d) (sym e) (settle_at o s t a cs d copies h)
 
 kept_at : (o : Option Answer) (a : AreaParts) → KeepsGiven a (ended o a)
-kept_at None a = record { invocation = refl; given = refl }
-kept_at (Some answer.On) a = record { invocation = refl; given = refl }
-kept_at (Some (answer.Need id)) a = record { invocation = refl; given = refl }
-kept_at (Some answer.Exit) a = record { invocation = refl; given = refl }
-kept_at (Some (answer.Fault f)) a = record { invocation = refl; given = refl }
+kept_at None a = record { invocation = refl; given = refl; spare = omega arith }
+kept_at (Some answer.On) a = record { invocation = refl; given = refl; spare = omega arith }
+kept_at (Some (answer.Need id)) a = record { invocation = refl; given = refl; spare = omega arith }
+kept_at (Some answer.Exit) a = record { invocation = refl; given = refl; spare = omega arith }
+kept_at (Some (answer.Fault f)) a = record { invocation = refl; given = refl; spare = omega arith }
 
 pub kept : (o : Option Answer) (a b : AreaParts) → b ≡ ended o a → KeepsGiven a b
 kept o a b e = subst (KeepsGiven a) (sym e) (kept_at o a)

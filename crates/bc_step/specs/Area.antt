@@ -21,8 +21,8 @@ pub record Held : Type 0 where
   pub body : Body
   pub copy : Option Body
 
--- An invocation, the objects that it was given, in order, the objects and the types of the instances that it made, its text,
--- and how it ended. There is room for so many more objects.
+-- An invocation, the objects that it was given, in order, the objects and the types of the instances that it made,
+-- its text, and how it ended. There is room for so many more objects.
 pub record AreaParts : Type 0 where
   pub invocation : Invocation
   pub held : List Held
@@ -104,17 +104,21 @@ has_room_for a b = nat_lt (length a.made) 65536 && nat_le (cells_in a.made + len
 -- The object was made and has this number, or there was no room for it.
 abbrev pub MakesObject : Option ℕ → Body → AreaParts → AreaParts → Type 0
 MakesObject None b old new = (has_room_for old b ≡ false) × (new ≡ old)
-MakesObject (Some n) b old new = (has_room_for old b ≡ true) × (n ≡ length old.made) × (new ≡ record old { made = old.made ++ b ∷ [] })
+MakesObject (Some n) b old new =
+    (has_room_for old b ≡ true) × (n ≡ length old.made) × (new ≡ record old { made = old.made ++ b ∷ [] })
 
 -- The same of an instance of this type.
 abbrev pub MakesInstance : Option ℕ → ℕ → AreaParts → AreaParts → Type 0
 MakesInstance None tag_type old new = (nat_lt (length old.instances) 65536 ≡ false) × (new ≡ old)
 MakesInstance (Some n) tag_type old new =
-    (nat_lt (length old.instances) 65536 ≡ true) × (n ≡ length old.instances) × (new ≡ record old { instances = old.instances ++ tag_type ∷ [] })
+    (nat_lt (length old.instances) 65536 ≡ true)
+    × (n ≡ length old.instances)
+    × (new ≡ record old { instances = old.instances ++ tag_type ∷ [] })
 
 -- The text was appended, or it was too long.
 abbrev pub SaysText : Bool → List ℕ → AreaParts → AreaParts → Type 0
-SaysText true bytes old new = (nat_le (length old.text + length bytes) 65536 ≡ true) × (new ≡ record old { text = old.text ++ bytes })
+SaysText true bytes old new =
+    (nat_le (length old.text + length bytes) 65536 ≡ true) × (new ≡ record old { text = old.text ++ bytes })
 SaysText false bytes old new = (nat_le (length old.text + length bytes) 65536 ≡ false) × (new ≡ old)
 
 abbrev pub with_id : List ℕ → List Body → List Held
@@ -130,9 +134,26 @@ pub record IsFresh (v : Invocation) (bodies : List Body) (a : AreaParts) : Type 
   pub text : a.text ≡ []
   pub end : a.end ≡ None
 
+-- how many objects were given and can be given in the memory that there is
+abbrev pub room_of : AreaParts → ℕ
+room_of a = length a.held + a.spare
+
+-- nothing is given or done, and there is so much room
+abbrev pub emptied : AreaParts → ℕ → AreaParts
+emptied a spare = record {
+  invocation = a.invocation;
+  held = [];
+  made = [];
+  instances = [];
+  text = [];
+  end = None;
+  spare = spare;
+}
+
 -- what was done, with so many turns left, these copies and these touched objects
 abbrev pub work_with : AreaParts → ℕ → List Written → List ℕ → Work
-work_with a turns cs ts = record { changed = cs; made = a.made; instances = a.instances; text = a.text; turns = turns; touched = ts }
+work_with a turns cs ts =
+    record { changed = cs; made = a.made; instances = a.instances; text = a.text; turns = turns; touched = ts }
 
 -- what the machine reads of it
 abbrev pub reads_of : AreaParts → Reads

@@ -1,11 +1,12 @@
 -- What an instruction does that writes no object, before the end of its area is set.
-use Rattle.std.specs.Prelude.{◌≡◌, ◌+◌, ◌++◌, ℕ, true, false, nat_le, length, List, Option, Some, None, Result, Ok, Err}
+use Rattle.std.specs.Prelude.{◌≡◌, ◌+◌, ◌++◌, ◌∷◌, ℕ, true, false, nat_le, length, List, Option, Some, None, Result, Ok, Err}
 use Rattle.bc_data.specs.declared.run.Fault.{Fault}
 use Rattle.bc_data.specs.declared.run.FaultKind.TheVariants as fault
 use Rattle.bc_data.specs.declared.run.Place.{Place}
 use Rattle.bc_data.specs.declared.run.Value.{Value}
 use Rattle.bc_data.specs.declared.run.Written.{Written}
-use Rattle.bc_mean.specs.Work.{Work, Got, Gives, Stops, Faulted, Missing, Wrong, Reached, say}
+use Rattle.bc_mean.specs.Work.{Work, Got, Gives, Stops, Faulted, Missing, Wrong, Reached, enter, say}
+use Rattle.bc_code.specs.declared.code.Code.{Code}
 use Rattle.bc_code.specs.Instructions.{Did, On, Over, goes}
 use Rattle.bc_code.specs.Instructions as rules
 use Rattle.bc_step.specs.declared.area.End.TheVariants as end
@@ -30,7 +31,8 @@ Moves (Some (answer.Fault f)) s t a cs d = (w : Work) × (d ≡ Over (Stops (Fau
 
 -- The state alone follows this, whatever the area.
 abbrev pub Follows : Option Answer → State → State → (rules.State → Did) → Type 0
-Follows did s t act = (a : AreaParts) (cs : List Written) (ts : List ℕ) → Moves did s t a cs (act (state_with s a cs ts))
+Follows did s t act =
+    (a : AreaParts) (cs : List Written) (ts : List ℕ) → Moves did s t a cs (act (state_with s a cs ts))
 
 -- a value; a fault; or a form that has no meaning
 abbrev pub computed : Result Value (Option Fault) → Work → Got Value
@@ -47,15 +49,28 @@ ended (Some (answer.Need id)) a = a
 ended None a = a
 
 -- A call was made, whatever the stack is behind it; or else this is the answer.
-abbrev pub Opens : Result (Unit {0}) (Option Answer) → State → State → AreaParts → List Written → (List Value → Did) → Type 0
+abbrev pub Opens :
+    Result (Unit {0}) (Option Answer) → State → State → AreaParts → List Written → (List Value → Did) → Type 0
 Opens (Ok x) s t a cs d = (ts : List ℕ) × ((st : List Value) → d st ≡ On (record (state_with t a cs ts) { stack = st }))
 Opens (Err did) s t a cs d = (st : List Value) → Moves did s t a cs (d st)
 
+-- to call a unit from this state, with these first slots and this stack behind it
+abbrev pub calls : Code → Place → Option ℕ → List Value → List Value → rules.State → Did
+calls code at unit slots st s =
+    goes (enter at (length s.callers) s.work) (λ _ w. rules.called code unit slots (rules.behind s ∷ s.callers) st w)
+
+-- to say this text, and to go on with this stack
+abbrev pub says_next : Place → List ℕ → List Value → rules.State → Did
+says_next at bytes st s = goes (say at bytes s.work) (λ _ w. rules.next s st w)
+
 -- The text was appended; or it was too long, and the invocation has ended.
 abbrev pub Said : Option Fault → Place → List ℕ → AreaParts → AreaParts → Type 0
-Said None at bytes old new = (nat_le (length old.text + length bytes) 65536 ≡ true) × (new ≡ record old { text = old.text ++ bytes })
+Said None at bytes old new =
+    (nat_le (length old.text + length bytes) 65536 ≡ true) × (new ≡ record old { text = old.text ++ bytes })
 Said (Some f) at bytes old new =
-    (nat_le (length old.text + length bytes) 65536 ≡ false) × (f ≡ record { kind = fault.Text; at = at }) × (new ≡ record old { end = Some (end.Fault f) })
+    (nat_le (length old.text + length bytes) 65536 ≡ false)
+    × (f ≡ record { kind = fault.Text; at = at })
+    × (new ≡ record old { end = Some (end.Fault f) })
 
 -- this text is said; or there is none, which has no meaning
 abbrev pub told : Option (List ℕ) → Place → Work → Got (Unit {0})

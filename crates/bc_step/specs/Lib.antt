@@ -4,3 +4,4 @@ pub mod Created
 pub mod Held
 pub mod Parts
 pub mod State
+pub mod Stepping

@@ -1,9 +1,12 @@
 -- A state and an area as the rules of instructions see them, and what `step` answers against the rule.
-use Rattle.std.specs.Prelude.{◌≡◌, ℕ, List, [], ◌∷◌, drop, reverse, take, Option, Some, None}
+use Rattle.std.specs.Prelude.{◌≡◌, ◌≤◌, ℕ, List, [], ◌∷◌, drop, reverse, take, Option, Some, None}
 use Rattle.bc_data.specs.declared.run.TagRef.{TagRef}
 use Rattle.bc_data.specs.declared.run.Value.{Value}
 use Rattle.bc_data.specs.declared.run.Written.{Written}
 use Rattle.bc_mean.specs.Work.{Work, Gives, Stops, Faulted, Missing, Wrong}
+use Rattle.bc_data.specs.declared.run.Place.{Place}
+use Rattle.bc_code.specs.declared.code.Code.{Code}
+use Rattle.bc_code.specs.declared.code.Instruction.{Instruction}
 use Rattle.bc_code.specs.Instructions.{Activation, Did, On, Over, Stuck}
 use Rattle.bc_code.specs.Instructions as rules
 use Rattle.bc_step.specs.declared.area.End.TheVariants as end
@@ -11,7 +14,7 @@ use Rattle.bc_step.specs.declared.state.Call.{Call}
 use Rattle.bc_step.specs.declared.state.State.{State}
 use Rattle.bc_step.specs.declared.state.Did.{Did as Answer}
 use Rattle.bc_step.specs.declared.state.Did.TheVariants as answer
-use Rattle.bc_step.specs.Area.{AreaParts, AreCopies, IsSame, given_of, work_with}
+use Rattle.bc_step.specs.Area.{AreaParts, AreCopies, IsSame, given_of, reads_of, work_with}
 
 -- The tag variables are the task's, which is the call around all others.
 abbrev pub tags_in : List Call → List TagRef → List TagRef
@@ -20,7 +23,11 @@ tags_in (c ∷ cs) tags = []
 
 -- a call within these, whose slots are the last ones
 abbrev pub activation : Call → List Call → List Value → List TagRef → Activation
-activation c callers slots tags = record { unit = c.unit; next = c.next; frame = record { slots = drop c.base slots; tags = tags_in callers tags } }
+activation c callers slots tags = record {
+  unit = c.unit;
+  next = c.next;
+  frame = record { slots = drop c.base slots; tags = tags_in callers tags };
+}
 
 -- the calls around a call, from the one that made it on
 abbrev pub activations : List Call → List Value → List TagRef → List Activation
@@ -76,7 +83,17 @@ abbrev pub AnswersIf : Option Answer → State → AreaParts → State → AreaP
 AnswersIf None s a t b d = HasRule d → ⊥
 AnswersIf (Some did) s a t b d = Answers did s a t b d
 
--- the invocation, and what it was given
+-- the invocation, what it was given, and the room for more
 pub record KeepsGiven (old new : AreaParts) : Type 0 where
   pub invocation : new.invocation ≡ old.invocation
   pub given : given_of new.held ≡ given_of old.held
+  pub spare : old.spare ≤ new.spare
+
+-- The answer, and the state and the area behind it, are those of this rule.
+abbrev pub ObeysRule : Option Answer → State → AreaParts → State → AreaParts → (rules.State → Did) → Type 0
+ObeysRule did s a t b act =
+    (cs : List Written) (ts : List ℕ) → AreCopies cs a.held → AnswersIf did s a t b (act (state_with s a cs ts))
+
+-- They are those of the rule of this instruction.
+abbrev pub Obeys : Option Answer → State → AreaParts → State → AreaParts → Place → Instruction → Type 0
+Obeys did s a t b at i = (code : Code) → ObeysRule did s a t b (rules.rule (reads_of a) code at i)

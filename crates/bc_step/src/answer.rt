@@ -45,7 +45,8 @@ pub(crate) fn stopped(area: &mut Area, halt: Halt) -> Option<Did>
 
 /// A fault, with which the invocation has ended.
 pub(crate) fn faulted(area: &mut Area, kind: FaultKind, at: Place) -> Did
-    ensures answers { (s t : States) (a : AreaParts) (w : Work) → AnswersIf (Some result) s a t area.new (Over (Stops (Faulted (record { kind = kind; at = at })) w)) }
+    ensures answers { (s t : States) (a : AreaParts) (w : Work)
+        → AnswersIf (Some result) s a t area.new (Over (Stops (Faulted (record { kind = kind; at = at })) w)) }
     ensures kept { KeepsGiven area.old area.new }
 {
     let fault = Fault { kind, at };

@@ -7,7 +7,7 @@ ghost use Rattle.bc_mean.specs.Changes.{changes_between};
 ghost use Rattle.bc_mean.specs.Enabled.{are_different};
 ghost use Rattle.bc_mean.specs.declared.plain.Plain.{Plain};
 ghost use Rattle.bc_code.specs.Given.{given_look, ids_of};
-ghost use Rattle.bc_step.specs.Area.{AgreesWith, FitsMask, HasNow, IsFresh, IsSame, MakesInstance, MakesObject, SaysText, body_in, copies_of, edited, given_of, work_with};
+ghost use Rattle.bc_step.specs.Area.{AgreesWith, FitsMask, HasNow, IsFresh, IsSame, MakesInstance, MakesObject, SaysText, body_in, copies_of, edited, emptied, given_of, room_of, work_with};
 
 use crate::body::Edit;
 use crate::created::Created;
@@ -38,8 +38,8 @@ pub enum End {
     Fault(Fault),
 }
 
-/// The bodies given to an invocation, a private copy of each object from its first write on, the objects and instances that it
-/// made, its text, and how it ended.
+/// The bodies given to an invocation, a private copy of each object from its first write on, the objects and
+/// instances that it made, its text, and how it ended.
 #[derive(Drop)]
 pub struct Area {
     invocation: Invocation,
@@ -55,7 +55,15 @@ impl Model for Area {
 
     ghost Value = { AreaParts };
 
-    ghost view = { λ a. record { invocation = a.invocation; held = a.holdings.held; made = a.created; instances = a.instances; text = a.text; end = a.end; spare = a.holdings.spare } };
+    ghost view = { λ a. record {
+      invocation = a.invocation;
+      held = a.holdings.held;
+      made = a.created;
+      instances = a.instances;
+      text = a.text;
+      end = a.end;
+      spare = a.holdings.spare;
+    } };
 }
 
 impl Area {
@@ -77,13 +85,15 @@ impl Area {
         }
     }
 
-    /// Goes to another invocation before its first instruction, in the memory that it has: the objects of its parameters are
-    /// given. After want of memory nothing is given.
+    /// Goes to another invocation before its first instruction, in the memory that it has: the objects of its
+    /// parameters are given. Each takes the room of one that was given before, or was reserved. After want of memory
+    /// nothing is given.
     pub fn restart(&mut self, v: Invocation, bodies: List<Body>) -> Result<(), AllocError>
         requires different { are_different v.objects ≡ true }
         requires each { length bodies ≡ length v.objects }
         ensures ok { OnOk result (IsFresh v bodies self.new) }
         ensures err { OnErr result (self.new.held ≡ []) }
+        ensures room { room_of self.old ≤ room_of self.new }
     {
         self.clear();
         self.invocation = v;
@@ -122,7 +132,10 @@ impl Area {
     pub fn give(&mut self, id: u32, body: Body)
         requires new { list_any (λ other. other == id) (ids_of (given_of self.old.held)) ≡ false }
         requires room { 1 ≤ self.old.spare }
-        ensures given { self.new ≡ record self.old { held = self.old.held ++ record { id = id; body = body; copy = None } ∷ []; spare = self.new.spare } }
+        ensures given { self.new ≡ record self.old {
+          held = self.old.held ++ record { id = id; body = body; copy = None } ∷ [];
+          spare = self.new.spare;
+        } }
         ensures spare { self.old.spare ≤ self.new.spare + 1 }
     {
         self.holdings.give(id, body);
@@ -159,8 +172,8 @@ impl Area {
 
     /// Takes all out that was given and done. The invocation and the room stay.
     pub fn clear(&mut self)
-        ensures cleared { self.new ≡ record { invocation = self.old.invocation; held = []; made = []; instances = []; text = []; end = None; spare = self.new.spare } }
-        ensures spare { self.old.spare ≤ self.new.spare }
+        ensures cleared { self.new ≡ emptied self.old self.new.spare }
+        ensures room { room_of self.old ≤ self.new.spare }
     {
         self.holdings.clear();
         self.created.clear();
@@ -171,7 +184,9 @@ impl Area {
 
     /// What the invocation changes in a store with the bodies that were given.
     pub fn changes(&self, alloc: Global) -> Result<Changes, AllocError>
-        ensures { IfOk result (λ c. (S : Plain) → AgreesWith S (given_of self.now.held) → c ≡ changes_between S (work_with self.now 0 (copies_of self.now.held) [])) }
+        ensures { IfOk result (λ c. (S : Plain)
+            → AgreesWith S (given_of self.now.held)
+            → c ≡ changes_between S (work_with self.now 0 (copies_of self.now.held) [])) }
     {
         Ok(Changes {
             bodies: self.holdings.written(alloc)?,
@@ -211,7 +226,8 @@ impl Area {
     ) -> Result<(), AllocError>
         requires there { (b : Body) × (body_in self.old object ≡ Some b) }
         requires fits { FitsMask edit }
-        ensures ok { OnOk result ((b : Body) → body_in self.old object ≡ Some b → HasNow self.old self.new object (edited edit b)) }
+        ensures ok { OnOk result ((b : Body)
+            → body_in self.old object ≡ Some b → HasNow self.old self.new object (edited edit b)) }
         ensures err { OnErr result (IsSame self.old self.new) }
     {
         match object {

@@ -8,7 +8,7 @@ ghost use Rattle.bc_mean.specs.Work.{with_flag};
 ghost use Rattle.bc_step.specs.Area.{FitsMask, edited};
 
 use bc_data::list::List;
-use bc_data::run::{Body, Kind, TagRef, Value};
+use bc_data::run::{Body, TagRef, Value};
 use std::alloc::AllocError;
 
 /// A write: a cell, a flag, a tag instance that is bound last, or one that is cleared.
@@ -20,107 +20,20 @@ pub enum Edit {
     Unbind(TagRef),
 }
 
-fn same_value(x: &Value, y: &Value) -> bool
-    ensures { result ≡ same_value x.now y.now }
-{
-    match x {
-        Value::Int(m) => match y {
-            Value::Int(n) => *m == *n,
-            _ => false,
-        },
-        Value::Bool(a) => match y {
-            Value::Bool(b) => { if *a { *b } else { !*b } }
-            _ => false,
-        },
-        Value::Null => match y {
-            Value::Null => true,
-            _ => false,
-        },
-        Value::Old(m) => match y {
-            Value::Old(n) => *m == *n,
-            _ => false,
-        },
-        Value::New(m) => match y {
-            Value::New(n) => *m == *n,
-            _ => false,
-        },
-    }
-}
-
 pub(crate) fn same_tag(s: &TagRef, t: &TagRef) -> bool
     ensures { result ≡ same_tag s.now t.now }
 {
-    match s {
-        TagRef::Old(m) => match t {
-            TagRef::Old(n) => *m == *n,
-            TagRef::New(_) => false,
-        },
-        TagRef::New(m) => match t {
-            TagRef::Old(_) => false,
-            TagRef::New(n) => *m == *n,
-        },
-    }
-}
-
-fn same_kind(a: Kind, b: Kind) -> bool
-    ensures { result ≡ same_kind a b }
-{
-    match a {
-        Kind::Class(c) => match b {
-            Kind::Class(d) => c == d,
-            _ => false,
-        },
-        Kind::Ints => match b {
-            Kind::Ints => true,
-            _ => false,
-        },
-        Kind::Bools => match b {
-            Kind::Bools => true,
-            _ => false,
-        },
-        Kind::Objects(c) => match b {
-            Kind::Objects(d) => c == d,
-            _ => false,
-        },
-    }
-}
-
-fn same_values(xs: &[Value], ys: &[Value]) -> bool
-    ensures { result ≡ pointwise same_value xs.now ys.now }
-{
-    if xs.len() != ys.len() {
-        return false;
-    }
-    for i in 0..xs.len() {
-        if !same_value(&xs[i], &ys[i]) {
-            return false;
-        }
-    }
-    true
-}
-
-fn same_tags(xs: &[TagRef], ys: &[TagRef]) -> bool
-    ensures { result ≡ pointwise same_tag xs.now ys.now }
-{
-    if xs.len() != ys.len() {
-        return false;
-    }
-    for i in 0..xs.len() {
-        if !same_tag(&xs[i], &ys[i]) {
-            return false;
-        }
-    }
-    true
+    *s == *t
 }
 
 /// Whether two bodies are the same, field by field.
 pub fn same_body(a: &Body, b: &Body) -> bool
     ensures { result ≡ same_body a.now b.now }
 {
-    same_kind(a.kind, b.kind)
-        && same_values(a.cells.as_slice(), b.cells.as_slice())
+    a.kind == b.kind
+        && a.cells.as_slice() == b.cells.as_slice()
         && a.flags == b.flags
-        && same_tags(a.tags.as_slice(), b.tags.as_slice())
+        && a.tags.as_slice() == b.tags.as_slice()
 }
 
 /// A mask with the bit of a flag set or cleared.

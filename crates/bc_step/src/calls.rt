@@ -2,14 +2,13 @@
 
 ghost use Rattle.std.specs.Prelude.{◌≡◌, ◌+◌, ◌-◌, ◌<◌, ◌≤◌, ◌∷◌, List, ℕ, drop, length, take, slice_get, option_map, IfOk, IfSome, IfNone, OnErr};
 ghost use Rattle.bc_data.specs.declared.run.Written.{Written};
-ghost use Rattle.bc_mean.specs.Work.{enter, reach};
+ghost use Rattle.bc_mean.specs.Work.{reach};
 ghost use Rattle.bc_code.specs.declared.code.Instruction.{Instruction};
 ghost use Rattle.bc_code.specs.declared.code.Unit.{Unit as CodeUnit};
-ghost use Rattle.bc_code.specs.Instructions.{Reads, behind, called, goes, maker_of, method_of, rule};
-ghost use Rattle.bc_step.specs.Area.{reads_of, work_with};
+ghost use Rattle.bc_code.specs.Instructions.{Reads, maker_of, method_of, rule};
+ghost use Rattle.bc_step.specs.Area.{AreaParts, reads_of, work_with};
 ghost use Rattle.bc_step.specs.State.{state_with};
-ghost use Rattle.bc_step.specs.Control.{Follows, IsStill, Moves, Opens, Reaches};
-ghost use Rattle.bc_step.specs.Area.{AreaParts};
+ghost use Rattle.bc_step.specs.Control.{calls, Follows, IsStill, Moves, Opens, Reaches};
 
 use crate::area::{Area, ObjectRef};
 use crate::slots::fill;
@@ -24,7 +23,8 @@ const MOST_CALLS: usize = 100;
 /// Whether the object of a call is there; or else what the call answers.
 #[inline]
 fn reach(area: &Area, at: Place, x: Value) -> Result<(), Option<Did>>
-    ensures { (turns : ℕ) (cs : List Written) (ts : List ℕ) → Reaches result area.now turns cs (reach (reads_of area.now).look at x (work_with area.now turns cs ts)) }
+    ensures { (turns : ℕ) (cs : List Written) (ts : List ℕ)
+        → Reaches result area.now turns cs (reach (reads_of area.now).look at x (work_with area.now turns cs ts)) }
 {
     match x {
         Value::Null => Err(Some(Did::Fault(Fault {
@@ -94,7 +94,10 @@ impl State {
         requires next { self.old.current.next < 18446744073709551615 }
         requires order { from ≤ to }
         requires within { to ≤ length self.old.stack.items }
-        ensures ok { IfOk result (λ made. (a : AreaParts) (cs : List Written) (ts : List ℕ) → Opens made self.old self.new a cs (λ st. goes (enter at (length (state_with self.old a cs ts).callers) (state_with self.old a cs ts).work) (λ _ w. called code.now unit (object ∷ take (to - from) (drop from self.old.stack.items)) (behind (state_with self.old a cs ts) ∷ (state_with self.old a cs ts).callers) st w))) }
+        ensures ok { IfOk result (λ made. (a : AreaParts) (cs : List Written) (ts : List ℕ)
+            → Opens made self.old self.new a cs
+            (λ st. calls code.now at unit (object ∷ take (to - from) (drop from self.old.stack.items)) st
+            (state_with self.old a cs ts))) }
         ensures stack { self.new.stack ≡ self.old.stack }
         ensures err { OnErr result (IsStill self.old self.new) }
     {
@@ -146,7 +149,8 @@ impl State {
         count: u32,
     ) -> Result<Option<Did>, AllocError>
         requires { self.old.current.next < 18446744073709551615 }
-        ensures ok { IfOk result (λ did. (R : Reads) → Follows did self.old self.new (rule R code.now at (Instruction.Make class count))) }
+        ensures ok { IfOk result (λ did. (R : Reads)
+            → Follows did self.old self.new (rule R code.now at (Instruction.Make class count))) }
         ensures err { OnErr result (IsStill self.old self.new) }
     {
         let len = self.stack.len();
@@ -177,7 +181,10 @@ impl State {
         count: u32,
     ) -> Result<Option<Did>, AllocError>
         requires { self.old.current.next < 18446744073709551615 }
-        ensures ok { IfOk result (λ did. (cs : List Written) (ts : List ℕ) → Moves did self.old self.new area.now cs (rule (reads_of area.now) code.now at (Instruction.Call class method count) (state_with self.old area.now cs ts))) }
+        ensures ok { IfOk result (λ did. (cs : List Written) (ts : List ℕ)
+            → Moves did self.old self.new area.now cs
+            (rule (reads_of area.now) code.now at (Instruction.Call class method count)
+            (state_with self.old area.now cs ts))) }
         ensures err { OnErr result (IsStill self.old self.new) }
     {
         let len = self.stack.len();

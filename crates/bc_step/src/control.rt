@@ -31,7 +31,8 @@ fn set_end(did: Did, area: &mut Area)
 /// After an exit or a fault the invocation has ended with it.
 #[inline]
 pub(crate) fn settled(did: Option<Did>, area: &mut Area) -> Option<Did>
-    ensures answers { (s t : States) (cs : List Written) (d : Steps) → AreCopies cs area.old.held → Moves did s t area.old cs d → AnswersIf result s area.old t area.new d }
+    ensures answers { (s t : States) (cs : List Written) (d : Steps)
+        → AreCopies cs area.old.held → Moves did s t area.old cs d → AnswersIf result s area.old t area.new d }
     ensures kept { KeepsGiven area.old area.new }
 {
     match did {
@@ -47,7 +48,8 @@ impl State {
     /// Goes on at an instruction of the same unit.
     #[inline]
     pub(crate) fn jump(&mut self, target: u32) -> Option<Did>
-        ensures { (R : Reads) (code : Code) (at : Place) → Follows result self.old self.new (rule R code at (Instruction.Jump target)) }
+        ensures { (R : Reads) (code : Code) (at : Place)
+            → Follows result self.old self.new (rule R code at (Instruction.Jump target)) }
     {
         self.current.next = target as usize;
         Some(Did::On)
@@ -107,7 +109,8 @@ impl State {
     /// Goes back to the call that made this one. Where there is none the task exits.
     #[inline]
     pub(crate) fn leave(&mut self) -> Option<Did>
-        ensures { (R : Reads) (code : Code) (at : Place) → Follows result self.old self.new (rule R code at Instruction.Return) }
+        ensures { (R : Reads) (code : Code) (at : Place)
+            → Follows result self.old self.new (rule R code at Instruction.Return) }
     {
         match self.callers.pop() {
             None => Some(Did::Exit),

@@ -41,7 +41,8 @@ impl Model for Created {
 fn edit_at(made: &mut List<Body>, n: usize, edit: Edit) -> Result<(), AllocError>
     requires there { n < length made.old }
     requires fits { FitsMask edit }
-    ensures ok { OnOk result ((b : Body) → slice_get made.old n ≡ Some b → made.new ≡ slice_set made.old n (edited edit b)) }
+    ensures ok { OnOk result ((b : Body)
+        → slice_get made.old n ≡ Some b → made.new ≡ slice_set made.old n (edited edit b)) }
     ensures cells { cells_in made.new ≡ cells_in made.old }
     ensures err { OnErr result (made.new ≡ made.old) }
 {
@@ -67,8 +68,8 @@ impl Created {
         self.made.get(n as usize)
     }
 
-    /// Appends an object and gives its number, or gives `None` where there is no room for it. After want of memory they are as
-    /// they were.
+    /// Appends an object and gives its number, or gives `None` where there is no room for it. After want of memory
+    /// they are as they were.
     pub fn make(&mut self, body: Body) -> Result<Option<u32>, AllocError>
         ensures ok { IfOk result (λ n. Makes n body self.old self.new) }
         ensures err { OnErr result (self.new ≡ self.old) }
@@ -87,7 +88,8 @@ impl Created {
     pub fn edit(&mut self, n: u32, edit: Edit) -> Result<(), AllocError>
         requires there { n < length self.old }
         requires fits { FitsMask edit }
-        ensures ok { OnOk result ((b : Body) → slice_get self.old n ≡ Some b → self.new ≡ slice_set self.old n (edited edit b)) }
+        ensures ok { OnOk result ((b : Body)
+            → slice_get self.old n ≡ Some b → self.new ≡ slice_set self.old n (edited edit b)) }
         ensures err { OnErr result (self.new ≡ self.old) }
     {
         edit_at(&mut self.made, n as usize, edit)

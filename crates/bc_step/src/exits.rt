@@ -6,7 +6,7 @@ ghost use Rattle.bc_code.specs.declared.code.Code.{Code};
 ghost use Rattle.bc_code.specs.declared.code.Instruction.{Instruction};
 ghost use Rattle.bc_code.specs.Instructions.{rule};
 ghost use Rattle.bc_step.specs.Area.{AreCopies, reads_of};
-ghost use Rattle.bc_step.specs.State.{AnswersIf, KeepsGiven, StaysPut, state_with};
+ghost use Rattle.bc_step.specs.State.{AnswersIf, KeepsGiven, Obeys, StaysPut, state_with};
 
 use crate::answer::{advance, stopped};
 use crate::area::Area;
@@ -28,7 +28,8 @@ pub(crate) fn exit_flag(
     on: bool,
 ) -> Result<Option<Did>, AllocError>
     requires { state.old.current.next < 18446744073709551615 }
-    ensures ok { IfOk result (λ did. (code : Code) (cs : List Written) (ts : List ℕ) → AreCopies cs area.old.held → AnswersIf did state.old area.old state.new area.new (rule (reads_of area.old) code at (Instruction.ExitFlag p flag on) (state_with state.old area.old cs ts))) }
+    ensures ok { IfOk result (λ did.
+        Obeys did state.old area.old state.new area.new at (Instruction.ExitFlag p flag on)) }
     ensures kept { KeepsGiven area.old area.new }
     ensures err { OnErr result (StaysPut state.old area.old state.new area.new) }
 {
@@ -55,7 +56,8 @@ pub(crate) fn exit_clear(
     variable: u32,
 ) -> Result<Option<Did>, AllocError>
     requires { state.old.current.next < 18446744073709551615 }
-    ensures ok { IfOk result (λ did. (code : Code) (cs : List Written) (ts : List ℕ) → AreCopies cs area.old.held → AnswersIf did state.old area.old state.new area.new (rule (reads_of area.old) code at (Instruction.ExitClear p variable) (state_with state.old area.old cs ts))) }
+    ensures ok { IfOk result (λ did.
+        Obeys did state.old area.old state.new area.new at (Instruction.ExitClear p variable)) }
     ensures kept { KeepsGiven area.old area.new }
     ensures err { OnErr result (StaysPut state.old area.old state.new area.new) }
 {
@@ -82,7 +84,8 @@ pub(crate) fn exit_add(
     variable: u32,
 ) -> Result<Option<Did>, AllocError>
     requires { state.old.current.next < 18446744073709551615 }
-    ensures ok { IfOk result (λ did. (code : Code) (cs : List Written) (ts : List ℕ) → AreCopies cs area.old.held → AnswersIf did state.old area.old state.new area.new (rule (reads_of area.old) code at (Instruction.ExitAdd p variable) (state_with state.old area.old cs ts))) }
+    ensures ok { IfOk result (λ did.
+        Obeys did state.old area.old state.new area.new at (Instruction.ExitAdd p variable)) }
     ensures kept { KeepsGiven area.old area.new }
     ensures err { OnErr result (StaysPut state.old area.old state.new area.new) }
 {

@@ -3,6 +3,7 @@
 ghost use Rattle.std.specs.Prelude.{◌≡◌, ◌≤◌, ◌+◌, true, false, [], ◌∷◌, ◌++◌, length, map, option_to_list, slice_get, vec_len, vec_capacity, IfOk, OnOk, OnErr};
 ghost use Rattle.std.specs.Option.{option_map};
 ghost use Rattle.std.specs.List.{filter_map, range_with_len};
+ghost use Rattle.indexmap.specs.IndexSet.{spare};
 ghost use Rattle.bc_data.specs.declared.run.Body.{Body};
 ghost use Rattle.bc_mean.specs.Enabled.{are_different};
 ghost use Rattle.bc_mean.specs.Changes.{written_of};
@@ -42,7 +43,10 @@ impl Model for Holdings {
 
     ghost Value = { HeldParts };
 
-    ghost view = { λ h. record { held = held_of h.ids.keys h.given.items; spare = min (spare h.ids) (vec_capacity h.given - vec_len h.given) } };
+    ghost view = { λ h. record {
+      held = held_of h.ids.keys h.given.items;
+      spare = min (spare h.ids) (vec_capacity h.given - vec_len h.given);
+    } };
 
     ghost invariant = { λ h. (length h.ids.keys ≡ length h.given.items) × (are_different h.ids.keys ≡ true) };
 }
@@ -62,7 +66,8 @@ impl Given {
     /// Writes into the private copy, which the first write makes. After want of memory nothing changed.
     fn edit(&mut self, alloc: Global, edit: Edit) -> Result<(), AllocError>
         requires { FitsMask edit }
-        ensures ok { OnOk result (self.new ≡ record self.old { copy = Some (edited edit (latest self.old.copy self.old.body)) }) }
+        ensures ok { OnOk result (self.new
+            ≡ record self.old { copy = Some (edited edit (latest self.old.copy self.old.body)) }) }
         ensures err { OnErr result (self.new ≡ self.old) }
     {
         match &mut self.copy {
@@ -95,7 +100,8 @@ impl Given {
 fn insert_all(ids: &mut IndexSet<u32>, objects: &[u32]) -> Result<(), AllocError>
     requires empty { ids.old.keys ≡ [] }
     requires different { are_different objects.now ≡ true }
-    ensures { OnOk result (ids.new.keys ≡ objects.now) }
+    ensures ok { OnOk result (ids.new.keys ≡ objects.now) }
+    ensures room { spare ids.old ≤ length ids.new.keys + spare ids.new }
 {
     for id in objects {
         ids.insert(*id)?;
@@ -105,7 +111,8 @@ fn insert_all(ids: &mut IndexSet<u32>, objects: &[u32]) -> Result<(), AllocError
 
 /// Appends bodies before their first writes.
 fn push_unwritten(given: &mut Vec<Given>, bodies: List<Body>) -> Result<(), AllocError>
-    ensures { OnOk result (given.new.items ≡ given.old.items ++ map unwritten bodies) }
+    ensures ok { OnOk result (given.new.items ≡ given.old.items ++ map unwritten bodies) }
+    ensures capacity { vec_capacity given.old ≤ vec_capacity given.new }
 {
     given.extend(bodies.into_iter().map(|body| Given { body, copy: None }))
 }
@@ -120,6 +127,8 @@ fn fill(
     requires { are_different objects.now ≡ true }
     ensures ids { OnOk result (ids.new.keys ≡ objects.now) }
     ensures given { OnOk result (given.new.items ≡ map unwritten bodies) }
+    ensures room { length ids.old.keys + spare ids.old ≤ length ids.new.keys + spare ids.new }
+    ensures capacity { vec_capacity given.old ≤ vec_capacity given.new }
 {
     ids.clear();
     given.clear();
@@ -148,7 +157,9 @@ fn edit_in(
     requires len { length ids.now.keys ≡ length given.old.items }
     requires there { (g : Given) × (look_in ids.now.keys given.old.items id ≡ Some g) }
     requires fits { FitsMask edit }
-    ensures ok { OnOk result ((g : Given) → look_in ids.now.keys given.old.items id ≡ Some g → given.new.items ≡ write_in ids.now.keys given.old.items id (edited edit (latest g.copy g.body))) }
+    ensures ok { OnOk result ((g : Given)
+        → look_in ids.now.keys given.old.items id ≡ Some g
+        → given.new.items ≡ write_in ids.now.keys given.old.items id (edited edit (latest g.copy g.body))) }
     ensures len { vec_len given.new ≡ vec_len given.old }
     ensures capacity { vec_capacity given.new ≡ vec_capacity given.old }
     ensures err { OnErr result (given.new.items ≡ given.old.items) }
@@ -229,6 +240,7 @@ impl Holdings {
         requires each { length bodies ≡ length objects.now }
         ensures ok { OnOk result (self.new.held ≡ with_id objects.now bodies) }
         ensures err { OnErr result (self.new.held ≡ []) }
+        ensures room { length self.old.held + self.old.spare ≤ length self.new.held + self.new.spare }
     {
         match fill(&mut self.ids, &mut self.given, objects, bodies) {
             Ok(()) => Ok(()),
@@ -297,7 +309,8 @@ impl Holdings {
     pub fn edit(&mut self, alloc: Global, id: u32, edit: Edit) -> Result<(), AllocError>
         requires there { (b : Body) × (held_body self.old.held id ≡ Some b) }
         requires fits { FitsMask edit }
-        ensures ok { OnOk result ((b : Body) → held_body self.old.held id ≡ Some b → HoldsNow self.old self.new id (edited edit b)) }
+        ensures ok { OnOk result ((b : Body)
+            → held_body self.old.held id ≡ Some b → HoldsNow self.old self.new id (edited edit b)) }
         ensures err { OnErr result (self.new ≡ self.old) }
     {
         edit_in(alloc, &self.ids, &mut self.given, id, edit)
@@ -306,7 +319,7 @@ impl Holdings {
     /// Takes all of them out.
     pub fn clear(&mut self)
         ensures held { self.new.held ≡ [] }
-        ensures spare { self.old.spare ≤ self.new.spare }
+        ensures room { length self.old.held + self.old.spare ≤ self.new.spare }
     {
         self.ids.clear();
         self.given.clear();
@@ -314,7 +327,10 @@ impl Holdings {
 
     /// The objects whose bodies now differ, ascending, with their new bodies.
     pub fn written(&self, alloc: Global) -> Result<List<Written>, AllocError>
-        ensures { IfOk result (λ l. (S : Plain) (w : Work) → AgreesWith S (given_of self.now.held) → w.changed ≡ copies_of self.now.held → l ≡ filter_map (λ id. written_of w id (slice_get S.bodies id)) (range_with_len 0 (length S.bodies))) }
+        ensures { IfOk result (λ l. (S : Plain) (w : Work)
+            → AgreesWith S (given_of self.now.held)
+            → w.changed ≡ copies_of self.now.held
+            → l ≡ filter_map (λ id. written_of w id (slice_get S.bodies id)) (range_with_len 0 (length S.bodies))) }
     {
         let mut numbers = Vec::from_slice(alloc, self.ids.as_slice())?;
         numbers.sort()?;

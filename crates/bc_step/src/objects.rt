@@ -1,12 +1,11 @@
 // The instructions on fields, elements and new objects.
 
-ghost use Rattle.std.specs.Prelude.{ℕ, ◌≡◌, ◌<◌, List, IfOk, OnErr};
-ghost use Rattle.bc_data.specs.declared.run.Written.{Written};
+ghost use Rattle.std.specs.Prelude.{◌≡◌, ◌<◌, IfOk, OnErr};
 ghost use Rattle.bc_code.specs.declared.code.Code.{Code};
 ghost use Rattle.bc_code.specs.declared.code.Instruction.{Instruction};
 ghost use Rattle.bc_code.specs.Instructions.{rule};
-ghost use Rattle.bc_step.specs.Area.{AreCopies, reads_of};
-ghost use Rattle.bc_step.specs.State.{AnswersIf, KeepsGiven, StaysPut, state_with};
+ghost use Rattle.bc_step.specs.Area.{reads_of};
+ghost use Rattle.bc_step.specs.State.{KeepsGiven, Obeys, ObeysRule, StaysPut};
 
 use crate::answer::{advance, faulted, stopped};
 use crate::area::Area;
@@ -29,7 +28,7 @@ pub(crate) fn field(
     field: u32,
 ) -> Result<Option<Did>, AllocError>
     requires { state.old.current.next < 18446744073709551615 }
-    ensures ok { IfOk result (λ did. (code : Code) (cs : List Written) (ts : List ℕ) → AreCopies cs area.old.held → AnswersIf did state.old area.old state.new area.new (rule (reads_of area.old) code at (Instruction.Field field) (state_with state.old area.old cs ts))) }
+    ensures ok { IfOk result (λ did. Obeys did state.old area.old state.new area.new at (Instruction.Field field)) }
     ensures kept { KeepsGiven area.old area.new }
     ensures err { OnErr result (StaysPut state.old area.old state.new area.new) }
 {
@@ -56,7 +55,7 @@ pub(crate) fn set_field(
     field: u32,
 ) -> Result<Option<Did>, AllocError>
     requires { state.old.current.next < 18446744073709551615 }
-    ensures ok { IfOk result (λ did. (code : Code) (cs : List Written) (ts : List ℕ) → AreCopies cs area.old.held → AnswersIf did state.old area.old state.new area.new (rule (reads_of area.old) code at (Instruction.SetField field) (state_with state.old area.old cs ts))) }
+    ensures ok { IfOk result (λ did. Obeys did state.old area.old state.new area.new at (Instruction.SetField field)) }
     ensures kept { KeepsGiven area.old area.new }
     ensures err { OnErr result (StaysPut state.old area.old state.new area.new) }
 {
@@ -82,7 +81,7 @@ pub(crate) fn length(
     at: Place,
 ) -> Result<Option<Did>, AllocError>
     requires { state.old.current.next < 18446744073709551615 }
-    ensures ok { IfOk result (λ did. (code : Code) (cs : List Written) (ts : List ℕ) → AreCopies cs area.old.held → AnswersIf did state.old area.old state.new area.new (rule (reads_of area.old) code at (Instruction.Length) (state_with state.old area.old cs ts))) }
+    ensures ok { IfOk result (λ did. Obeys did state.old area.old state.new area.new at (Instruction.Length)) }
     ensures kept { KeepsGiven area.old area.new }
     ensures err { OnErr result (StaysPut state.old area.old state.new area.new) }
 {
@@ -104,7 +103,7 @@ pub(crate) fn length(
 #[inline]
 pub(crate) fn elem(state: &mut State, area: &mut Area, at: Place) -> Result<Option<Did>, AllocError>
     requires { state.old.current.next < 18446744073709551615 }
-    ensures ok { IfOk result (λ did. (code : Code) (cs : List Written) (ts : List ℕ) → AreCopies cs area.old.held → AnswersIf did state.old area.old state.new area.new (rule (reads_of area.old) code at (Instruction.Elem) (state_with state.old area.old cs ts))) }
+    ensures ok { IfOk result (λ did. Obeys did state.old area.old state.new area.new at (Instruction.Elem)) }
     ensures kept { KeepsGiven area.old area.new }
     ensures err { OnErr result (StaysPut state.old area.old state.new area.new) }
 {
@@ -130,7 +129,7 @@ pub(crate) fn set_elem(
     at: Place,
 ) -> Result<Option<Did>, AllocError>
     requires { state.old.current.next < 18446744073709551615 }
-    ensures ok { IfOk result (λ did. (code : Code) (cs : List Written) (ts : List ℕ) → AreCopies cs area.old.held → AnswersIf did state.old area.old state.new area.new (rule (reads_of area.old) code at (Instruction.SetElem) (state_with state.old area.old cs ts))) }
+    ensures ok { IfOk result (λ did. Obeys did state.old area.old state.new area.new at (Instruction.SetElem)) }
     ensures kept { KeepsGiven area.old area.new }
     ensures err { OnErr result (StaysPut state.old area.old state.new area.new) }
 {
@@ -161,7 +160,8 @@ pub(crate) fn new_object(
     class: u32,
 ) -> Result<Option<Did>, AllocError>
     requires { state.old.current.next < 18446744073709551615 }
-    ensures ok { IfOk result (λ did. (cs : List Written) (ts : List ℕ) → AreCopies cs area.old.held → AnswersIf did state.old area.old state.new area.new (rule (reads_of area.old) code.now at (Instruction.NewObject class) (state_with state.old area.old cs ts))) }
+    ensures ok { IfOk result (λ did. ObeysRule did state.old area.old state.new area.new
+        (rule (reads_of area.old) code.now at (Instruction.NewObject class))) }
     ensures kept { KeepsGiven area.old area.new }
     ensures err { OnErr result (StaysPut state.old area.old state.new area.new) }
 {
@@ -189,7 +189,7 @@ pub(crate) fn new_array(
     kind: Kind,
 ) -> Result<Option<Did>, AllocError>
     requires { state.old.current.next < 18446744073709551615 }
-    ensures ok { IfOk result (λ did. (code : Code) (cs : List Written) (ts : List ℕ) → AreCopies cs area.old.held → AnswersIf did state.old area.old state.new area.new (rule (reads_of area.old) code at (Instruction.NewArray kind) (state_with state.old area.old cs ts))) }
+    ensures ok { IfOk result (λ did. Obeys did state.old area.old state.new area.new at (Instruction.NewArray kind)) }
     ensures kept { KeepsGiven area.old area.new }
     ensures err { OnErr result (StaysPut state.old area.old state.new area.new) }
 {
@@ -222,7 +222,7 @@ pub(crate) fn set_flag(
     on: bool,
 ) -> Result<Option<Did>, AllocError>
     requires { state.old.current.next < 18446744073709551615 }
-    ensures ok { IfOk result (λ did. (code : Code) (cs : List Written) (ts : List ℕ) → AreCopies cs area.old.held → AnswersIf did state.old area.old state.new area.new (rule (reads_of area.old) code at (Instruction.SetFlag flag on) (state_with state.old area.old cs ts))) }
+    ensures ok { IfOk result (λ did. Obeys did state.old area.old state.new area.new at (Instruction.SetFlag flag on)) }
     ensures kept { KeepsGiven area.old area.new }
     ensures err { OnErr result (StaysPut state.old area.old state.new area.new) }
 {
@@ -251,7 +251,7 @@ pub(crate) fn add_tag(
     variable: u32,
 ) -> Result<Option<Did>, AllocError>
     requires { state.old.current.next < 18446744073709551615 }
-    ensures ok { IfOk result (λ did. (code : Code) (cs : List Written) (ts : List ℕ) → AreCopies cs area.old.held → AnswersIf did state.old area.old state.new area.new (rule (reads_of area.old) code at (Instruction.AddTag variable) (state_with state.old area.old cs ts))) }
+    ensures ok { IfOk result (λ did. Obeys did state.old area.old state.new area.new at (Instruction.AddTag variable)) }
     ensures kept { KeepsGiven area.old area.new }
     ensures err { OnErr result (StaysPut state.old area.old state.new area.new) }
 {
@@ -273,7 +273,8 @@ pub(crate) fn new_tag(
     tag_type: u32,
 ) -> Result<Option<Did>, AllocError>
     requires { state.old.current.next < 18446744073709551615 }
-    ensures ok { IfOk result (λ did. (code : Code) (cs : List Written) (ts : List ℕ) → AreCopies cs area.old.held → AnswersIf did state.old area.old state.new area.new (rule (reads_of area.old) code at (Instruction.NewTag variable tag_type) (state_with state.old area.old cs ts))) }
+    ensures ok { IfOk result (λ did.
+        Obeys did state.old area.old state.new area.new at (Instruction.NewTag variable tag_type)) }
     ensures kept { KeepsGiven area.old area.new }
     ensures err { OnErr result (StaysPut state.old area.old state.new area.new) }
 {

@@ -4,12 +4,12 @@ ghost use Rattle.std.specs.Prelude.{◌≡◌, ◌<◌, ◌∷◌, List, ℕ, re
 ghost use Rattle.bc_data.specs.declared.run.Written.{Written};
 ghost use Rattle.bc_code.specs.declared.code.Code.{Code};
 ghost use Rattle.bc_code.specs.declared.code.Instruction.{Instruction};
-ghost use Rattle.bc_code.specs.Instructions.{goes, next, rule};
+ghost use Rattle.bc_code.specs.Instructions.{rule};
 ghost use Rattle.bc_mean.specs.Execute.{say_number, say_truth};
-ghost use Rattle.bc_mean.specs.Work.{Work, say};
+ghost use Rattle.bc_mean.specs.Work.{Work};
 ghost use Rattle.bc_step.specs.Area.{AreCopies, reads_of};
-ghost use Rattle.bc_step.specs.State.{AnswersIf, KeepsGiven, StaysPut, state_with};
-ghost use Rattle.bc_step.specs.Control.{Said, told};
+ghost use Rattle.bc_step.specs.State.{AnswersIf, KeepsGiven, Obeys, StaysPut, state_with};
+ghost use Rattle.bc_step.specs.Control.{Said, says_next, told};
 
 use crate::area::{Area, End};
 use crate::stack::{drop_top, top};
@@ -66,7 +66,8 @@ pub(crate) fn print_text(
     bytes: &[u8],
 ) -> Result<Option<Did>, AllocError>
     requires { state.old.current.next < 18446744073709551615 }
-    ensures ok { IfOk result (λ did. (code : Code) (cs : List Written) (ts : List ℕ) → AreCopies cs area.old.held → AnswersIf did state.old area.old state.new area.new (rule (reads_of area.old) code at (Instruction.PrintText bytes.now) (state_with state.old area.old cs ts))) }
+    ensures ok { IfOk result (λ did.
+        Obeys did state.old area.old state.new area.new at (Instruction.PrintText bytes.now)) }
     ensures kept { KeepsGiven area.old area.new }
     ensures err { OnErr result (StaysPut state.old area.old state.new area.new) }
 {
@@ -87,7 +88,11 @@ fn print_top(
     bytes: &[u8],
 ) -> Result<Option<Did>, AllocError>
     requires { state.old.current.next < 18446744073709551615 }
-    ensures ok { IfOk result (λ did. (x : Value) (st : List Value) (cs : List Written) (ts : List ℕ) → reverse state.old.stack.items ≡ x ∷ st → AreCopies cs area.old.held → AnswersIf did state.old area.old state.new area.new (goes (say at bytes.now (state_with state.old area.old cs ts).work) (λ _ w. next (state_with state.old area.old cs ts) st w))) }
+    ensures ok { IfOk result (λ did. (x : Value) (st : List Value) (cs : List Written) (ts : List ℕ)
+        → reverse state.old.stack.items ≡ x ∷ st
+        → AreCopies cs area.old.held
+        → AnswersIf did state.old area.old state.new area.new
+        (says_next at bytes.now st (state_with state.old area.old cs ts))) }
     ensures kept { KeepsGiven area.old area.new }
     ensures err { OnErr result (StaysPut state.old area.old state.new area.new) }
 {
@@ -108,7 +113,7 @@ pub(crate) fn print_int(
     at: Place,
 ) -> Result<Option<Did>, AllocError>
     requires { state.old.current.next < 18446744073709551615 }
-    ensures ok { IfOk result (λ did. (code : Code) (cs : List Written) (ts : List ℕ) → AreCopies cs area.old.held → AnswersIf did state.old area.old state.new area.new (rule (reads_of area.old) code at Instruction.PrintInt (state_with state.old area.old cs ts))) }
+    ensures ok { IfOk result (λ did. Obeys did state.old area.old state.new area.new at Instruction.PrintInt) }
     ensures kept { KeepsGiven area.old area.new }
     ensures err { OnErr result (StaysPut state.old area.old state.new area.new) }
 {
@@ -127,7 +132,7 @@ pub(crate) fn print_bool(
     at: Place,
 ) -> Result<Option<Did>, AllocError>
     requires { state.old.current.next < 18446744073709551615 }
-    ensures ok { IfOk result (λ did. (code : Code) (cs : List Written) (ts : List ℕ) → AreCopies cs area.old.held → AnswersIf did state.old area.old state.new area.new (rule (reads_of area.old) code at Instruction.PrintBool (state_with state.old area.old cs ts))) }
+    ensures ok { IfOk result (λ did. Obeys did state.old area.old state.new area.new at Instruction.PrintBool) }
     ensures kept { KeepsGiven area.old area.new }
     ensures err { OnErr result (StaysPut state.old area.old state.new area.new) }
 {

@@ -1,12 +1,12 @@
 // The objects on which an instruction works, and their cells.
 
-ghost use Rattle.std.specs.Prelude.{◌≡◌, ◌<◌, Some, length, slice_get, pos, IfOk, IfErr, IfSome, IfNone};
+ghost use Rattle.std.specs.Prelude.{◌≡◌, ◌<◌, Some, length, pos, IfOk, IfErr, IfSome, IfNone};
 ghost use Rattle.bc_data.specs.declared.run.Value.TheVariants as value;
-ghost use Rattle.bc_mean.specs.Work.{Work, Gives, Stops, and_then, known, reach as meant_reach, parameter as meant_parameter};
+ghost use Rattle.bc_mean.specs.Work.{Work, Gives, Stops, reach as meant_reach};
 ghost use Rattle.bc_mean.specs.Evaluate.{index_in as meant_index};
 ghost use Rattle.bc_code.specs.Instructions.{new_object};
 ghost use Rattle.bc_step.specs.Area.{body_in, reads_of};
-ghost use Rattle.bc_step.specs.Parts.{halt_of, reached_at, Does, Halts};
+ghost use Rattle.bc_step.specs.Parts.{element_at, field_at, halt_of, length_at, parameter_in, reached_at, Does, Halts};
 
 use crate::answer::{Halt, fault};
 use crate::area::{Area, ObjectRef};
@@ -16,7 +16,8 @@ use bc_data::run::{Body, FaultKind, Place, Value};
 #[inline]
 pub(crate) fn reach(area: &Area, at: Place, x: Value) -> Result<(ObjectRef, &Body), Halt>
     ensures there { IfOk result (λ r. body_in area.now r.0 ≡ Some r.1.now) }
-    ensures ok { IfOk result (λ r. Does (reached_at r.0 r.1.now) area.now area.now (λ w. meant_reach (reads_of area.now).look at x w)) }
+    ensures ok { IfOk result (λ r.
+        Does (reached_at r.0 r.1.now) area.now area.now (λ w. meant_reach (reads_of area.now).look at x w)) }
     ensures err { IfErr result (λ h. Halts h area.now (λ w. meant_reach (reads_of area.now).look at x w)) }
 {
     match x {
@@ -38,8 +39,9 @@ pub(crate) fn reach(area: &Area, at: Place, x: Value) -> Result<(ObjectRef, &Bod
 #[inline]
 pub(crate) fn parameter(area: &Area, p: u32) -> Result<(ObjectRef, &Body), Halt>
     ensures there { IfOk result (λ r. body_in area.now r.0 ≡ Some r.1.now) }
-    ensures ok { IfOk result (λ r. Does (reached_at r.0 r.1.now) area.now area.now (λ w. meant_parameter (reads_of area.now).look (slice_get (reads_of area.now).objects p) w)) }
-    ensures err { IfErr result (λ h. Halts h area.now (λ w. meant_parameter (reads_of area.now).look (slice_get (reads_of area.now).objects p) w)) }
+    ensures ok { IfOk result (λ r.
+        Does (reached_at r.0 r.1.now) area.now area.now (λ w. parameter_in (reads_of area.now) p w)) }
+    ensures err { IfErr result (λ h. Halts h area.now (λ w. parameter_in (reads_of area.now) p w)) }
 {
     match area.parameter(p) {
         None => Err(Halt::Wrong),
@@ -90,8 +92,8 @@ pub(crate) fn index_in(at: Place, body: &Body, i: Value) -> Result<usize, Halt>
 /// The value of a field.
 #[inline]
 pub(crate) fn field_of(area: &Area, at: Place, x: Value, field: u32) -> Result<Value, Halt>
-    ensures ok { IfOk result (λ y. Does y area.now area.now (λ w. and_then (meant_reach (reads_of area.now).look at x w) (λ o v. known (slice_get o.body.cells field) v))) }
-    ensures err { IfErr result (λ h. Halts h area.now (λ w. and_then (meant_reach (reads_of area.now).look at x w) (λ o v. known (slice_get o.body.cells field) v))) }
+    ensures ok { IfOk result (λ y. Does y area.now area.now (λ w. field_at (reads_of area.now).look at x field w)) }
+    ensures err { IfErr result (λ h. Halts h area.now (λ w. field_at (reads_of area.now).look at x field w)) }
 {
     match reach(area, at, x) {
         Err(halt) => Err(halt),
@@ -105,7 +107,8 @@ pub(crate) fn field_of(area: &Area, at: Place, x: Value, field: u32) -> Result<V
 /// The number of elements of an array.
 #[inline]
 pub(crate) fn length_of(area: &Area, at: Place, x: Value) -> Result<usize, Halt>
-    ensures ok { IfOk result (λ n. Does (value.Int (pos n)) area.now area.now (λ w. and_then (meant_reach (reads_of area.now).look at x w) (λ o v. Gives (value.Int (pos (length o.body.cells))) v))) }
+    ensures ok { IfOk result (λ n.
+        Does (value.Int (pos n)) area.now area.now (λ w. length_at (reads_of area.now).look at x w)) }
     ensures err { IfErr result (λ h. Halts h area.now (λ w. meant_reach (reads_of area.now).look at x w)) }
 {
     match reach(area, at, x) {
@@ -117,8 +120,8 @@ pub(crate) fn length_of(area: &Area, at: Place, x: Value) -> Result<usize, Halt>
 /// The value of an element.
 #[inline]
 pub(crate) fn element_of(area: &Area, at: Place, x: Value, i: Value) -> Result<Value, Halt>
-    ensures ok { IfOk result (λ y. Does y area.now area.now (λ w. and_then (meant_reach (reads_of area.now).look at x w) (λ o v. and_then (meant_index at o.body i v) (λ n u. known (slice_get o.body.cells n) u)))) }
-    ensures err { IfErr result (λ h. Halts h area.now (λ w. and_then (meant_reach (reads_of area.now).look at x w) (λ o v. and_then (meant_index at o.body i v) (λ n u. known (slice_get o.body.cells n) u)))) }
+    ensures ok { IfOk result (λ y. Does y area.now area.now (λ w. element_at (reads_of area.now).look at x i w)) }
+    ensures err { IfErr result (λ h. Halts h area.now (λ w. element_at (reads_of area.now).look at x i w)) }
 {
     match reach(area, at, x) {
         Err(halt) => Err(halt),

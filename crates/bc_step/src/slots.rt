@@ -24,7 +24,8 @@ fn append(
     arguments: &[Value],
     locals: u32,
 ) -> Result<(), AllocError>
-    ensures ok { OnOk result (slots.new.items ≡ slots.old.items ++ ((object ∷ arguments.now) ++ replicate (locals - length (object ∷ arguments.now)) (value.Int (pos 0)))) }
+    ensures ok { OnOk result (slots.new.items ≡ slots.old.items
+        ++ ((object ∷ arguments.now) ++ replicate (locals - length (object ∷ arguments.now)) (value.Int (pos 0)))) }
     ensures err { OnErr result (take (length slots.old.items) slots.new.items ≡ slots.old.items) }
 {
     slots.push(object)?;
@@ -46,7 +47,8 @@ pub(crate) fn fill(
     arguments: &[Value],
     locals: u32,
 ) -> Result<(), AllocError>
-    ensures ok { OnOk result (slots.new.items ≡ slots.old.items ++ ((object ∷ arguments.now) ++ replicate (locals - length (object ∷ arguments.now)) (value.Int (pos 0)))) }
+    ensures ok { OnOk result (slots.new.items ≡ slots.old.items
+        ++ ((object ∷ arguments.now) ++ replicate (locals - length (object ∷ arguments.now)) (value.Int (pos 0)))) }
     ensures err { OnErr result (slots.new.items ≡ slots.old.items) }
 {
     let base = slots.len();

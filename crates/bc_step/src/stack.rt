@@ -66,7 +66,8 @@ pub(crate) fn top_three(stack: &[Value]) -> Option<(Value, Value, Value)>
 /// Puts a value in the place of the top.
 #[inline]
 pub(crate) fn set_top(stack: &mut Vec<Value>, x: Value)
-    ensures { (y : Value) (rest : List Value) → reverse stack.old.items ≡ y ∷ rest → reverse stack.new.items ≡ x ∷ rest }
+    ensures { (y : Value) (rest : List Value)
+        → reverse stack.old.items ≡ y ∷ rest → reverse stack.new.items ≡ x ∷ rest }
 {
     let n = stack.len();
     if n > 0 {
@@ -83,7 +84,8 @@ pub(crate) fn drop_top(stack: &mut Vec<Value>)
 
 #[inline]
 pub(crate) fn drop_two(stack: &mut Vec<Value>)
-    ensures { (x y : Value) (rest : List Value) → reverse stack.old.items ≡ y ∷ x ∷ rest → reverse stack.new.items ≡ rest }
+    ensures { (x y : Value) (rest : List Value)
+        → reverse stack.old.items ≡ y ∷ x ∷ rest → reverse stack.new.items ≡ rest }
 {
     drop_top(stack);
     drop_top(stack);
@@ -91,7 +93,8 @@ pub(crate) fn drop_two(stack: &mut Vec<Value>)
 
 #[inline]
 pub(crate) fn drop_three(stack: &mut Vec<Value>)
-    ensures { (x y z : Value) (rest : List Value) → reverse stack.old.items ≡ z ∷ y ∷ x ∷ rest → reverse stack.new.items ≡ rest }
+    ensures { (x y z : Value) (rest : List Value)
+        → reverse stack.old.items ≡ z ∷ y ∷ x ∷ rest → reverse stack.new.items ≡ rest }
 {
     drop_two(stack);
     drop_top(stack);
@@ -100,7 +103,8 @@ pub(crate) fn drop_three(stack: &mut Vec<Value>)
 /// Puts a value in the place of the two on top.
 #[inline]
 pub(crate) fn replace_two(stack: &mut Vec<Value>, z: Value)
-    ensures { (x y : Value) (rest : List Value) → reverse stack.old.items ≡ y ∷ x ∷ rest → reverse stack.new.items ≡ z ∷ rest }
+    ensures { (x y : Value) (rest : List Value)
+        → reverse stack.old.items ≡ y ∷ x ∷ rest → reverse stack.new.items ≡ z ∷ rest }
 {
     drop_top(stack);
     set_top(stack, z);

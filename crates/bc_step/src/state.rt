@@ -1,13 +1,8 @@
 // The state of the machine: calls, slots and a stack of values.
 
-ghost use Rattle.std.specs.Prelude.{◌≡◌, [], List, slice_get, Some, IfOk, OnOk};
-ghost use Rattle.bc_data.specs.declared.run.Body.{Body};
+ghost use Rattle.std.specs.Prelude.{◌≡◌, [], IfOk, OnOk};
 ghost use Rattle.bc_mean.specs.Execute.{most_turns};
-ghost use Rattle.bc_code.specs.declared.code.Unit.{Unit as CodeUnit};
-ghost use Rattle.bc_code.specs.Instructions.{On};
-ghost use Rattle.bc_code.specs.Instructions as rules;
-ghost use Rattle.bc_step.specs.Area.{AreaParts, IsFresh};
-ghost use Rattle.bc_step.specs.State.{state_with};
+ghost use Rattle.bc_step.specs.Stepping.{CanBegin, StandsAtStart};
 
 use crate::slots::{pad, push_objects, push_tags};
 use bc_code::code::Code;
@@ -22,8 +17,8 @@ pub struct Call {
     pub base: usize,
 }
 
-/// The state of a run. The last of the callers made the current call, and the last of the stack is its top. The slots of a call
-/// stand behind those of its caller. The tag variables are the task's. `turns` counts those that are left.
+/// The state of a run. The last of the callers made the current call, and the last of the stack is its top. The slots
+/// of a call stand behind those of its caller. The tag variables are the task's. `turns` counts those that are left.
 #[derive(Debug, Drop)]
 pub struct State {
     pub current: Call,
@@ -73,12 +68,12 @@ impl State {
         }
     }
 
-    /// Goes to the state before the first instruction of another invocation, in the memory that it has: its parameters are the
-    /// first slots and tag variables of its task. After want of memory it is of no use until
-    /// it is restarted.
+    /// Goes to the state before the first instruction of another invocation, in the memory that it has: its
+    /// parameters are the first slots and tag variables of its task. After want of memory it is of no use until it is
+    /// restarted.
     pub fn restart(&mut self, code: &Code, v: Invocation) -> Result<(), AllocError>
-        requires { (unit : CodeUnit) × (slice_get code.now.units v.task ≡ Some unit) }
-        ensures { OnOk result ((a : AreaParts) (bodies : List Body) → IsFresh v bodies a → rules.start code.now v ≡ On (state_with self.new a [] v.objects)) }
+        requires { CanBegin code.now v }
+        ensures { OnOk result (StandsAtStart code.now v self.new) }
     {
         let Some(unit) = code.units.get(v.task as usize) else {
             unreachable!()
@@ -104,8 +99,8 @@ impl State {
 
     /// The state before the first instruction of an invocation.
     pub fn start(alloc: Global, code: &Code, v: Invocation) -> Result<State, AllocError>
-        requires { (unit : CodeUnit) × (slice_get code.now.units v.task ≡ Some unit) }
-        ensures { IfOk result (λ s. (a : AreaParts) (bodies : List Body) → IsFresh v bodies a → rules.start code.now v ≡ On (state_with s a [] v.objects)) }
+        requires { CanBegin code.now v }
+        ensures { IfOk result (StandsAtStart code.now v) }
     {
         let mut state = State::idle(alloc);
         state.restart(code, v)?;

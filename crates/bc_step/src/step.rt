@@ -1,11 +1,10 @@
 // One instruction.
 
-ghost use Rattle.std.specs.Prelude.{◌≡◌, ◌<◌, List, ℕ, slice_get, IfOk, OnErr};
-ghost use Rattle.bc_data.specs.declared.run.Written.{Written};
-ghost use Rattle.bc_code.specs.Instructions.{place_or, rule};
-ghost use Rattle.bc_code.specs.Instructions as rules;
-ghost use Rattle.bc_step.specs.Area.{AreCopies, reads_of};
-ghost use Rattle.bc_step.specs.State.{Answers, AnswersIf, HasRule, KeepsGiven, StaysPut, state_with};
+ghost use Rattle.std.specs.Prelude.{◌≡◌, ◌<◌, Some, slice_get, IfOk, OnErr};
+ghost use Rattle.bc_code.specs.Instructions.{place_or, rule, step};
+ghost use Rattle.bc_step.specs.Area.{reads_of};
+ghost use Rattle.bc_step.specs.State.{KeepsGiven, ObeysRule, StaysPut};
+ghost use Rattle.bc_step.specs.Stepping.{CanStep};
 
 use crate::area::Area;
 use crate::control::settled;
@@ -43,7 +42,8 @@ fn perform(
     area: &mut Area,
 ) -> Result<Option<Did>, AllocError>
     requires { state.old.current.next < 18446744073709551615 }
-    ensures ok { IfOk result (λ did. (cs : List Written) (ts : List ℕ) → AreCopies cs area.old.held → AnswersIf did state.old area.old state.new area.new (rule (reads_of area.old) code.now at instruction.now (state_with state.old area.old cs ts))) }
+    ensures ok { IfOk result (λ did. ObeysRule did state.old area.old state.new area.new
+        (rule (reads_of area.old) code.now at instruction.now)) }
     ensures kept { KeepsGiven area.old area.new }
     ensures err { OnErr result (StaysPut state.old area.old state.new area.new) }
 {
@@ -109,7 +109,8 @@ fn try_step(
     state: &mut State,
     area: &mut Area,
 ) -> Result<Option<Did>, AllocError>
-    ensures ok { IfOk result (λ did. (cs : List Written) (ts : List ℕ) → AreCopies cs area.old.held → AnswersIf did state.old area.old state.new area.new (rules.step (reads_of area.old) code.now (state_with state.old area.old cs ts))) }
+    ensures ok { IfOk result (λ did. ObeysRule did state.old area.old state.new area.new
+        (step (reads_of area.old) code.now)) }
     ensures kept { KeepsGiven area.old area.new }
     ensures err { OnErr result (StaysPut state.old area.old state.new area.new) }
 {
@@ -127,16 +128,18 @@ fn try_step(
     }
 }
 
-/// One instruction. The answer is `Need` exactly where it touches an object that the area hasn't; then nothing changed, and the
-/// instruction is to be done again. After want of memory nothing changed.
+/// One instruction of a run that generated code has brought here and that has no end yet. The answer is `Need`
+/// exactly where it touches an object that the area hasn't; then nothing changed, and the instruction is to be done
+/// again. After want of memory nothing changed.
 pub fn step(
     alloc: Global,
     code: &Code,
     state: &mut State,
     area: &mut Area,
 ) -> Result<Did, AllocError>
-    requires { (cs : List Written) × (ts : List ℕ) × AreCopies cs area.old.held × HasRule (rules.step (reads_of area.old) code.now (state_with state.old area.old cs ts)) }
-    ensures ok { IfOk result (λ did. (cs : List Written) (ts : List ℕ) → AreCopies cs area.old.held → Answers did state.old area.old state.new area.new (rules.step (reads_of area.old) code.now (state_with state.old area.old cs ts))) }
+    requires { CanStep code.now state.old area.old }
+    ensures ok { IfOk result (λ did. ObeysRule (Some did) state.old area.old state.new area.new
+        (step (reads_of area.old) code.now)) }
     ensures kept { KeepsGiven area.old area.new }
     ensures err { OnErr result (StaysPut state.old area.old state.new area.new) }
 {

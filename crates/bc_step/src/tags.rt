@@ -5,10 +5,9 @@ ghost use Rattle.std.specs.List.{list_any};
 ghost use Rattle.bc_data.specs.declared.run.Body.{Body};
 ghost use Rattle.bc_data.specs.declared.run.Written.{Written};
 ghost use Rattle.bc_mean.specs.Values.{same_tag as meant_same};
-ghost use Rattle.bc_mean.specs.Work.{Got, Reached, Work, and_then, known, bind as meant_bind};
-ghost use Rattle.bc_code.specs.Instructions.{goes, next};
+ghost use Rattle.bc_mean.specs.Work.{Got, Reached, Work};
 ghost use Rattle.bc_step.specs.Area.{AreaParts, AreCopies, IsSame, body_in};
-ghost use Rattle.bc_step.specs.Parts.{Binds, Does, reached_at, tags_set};
+ghost use Rattle.bc_step.specs.Parts.{Binds, Does, binds_next, reached_at, tags_set};
 ghost use Rattle.bc_step.specs.State.{AnswersIf, KeepsGiven, StaysPut, state_with, tags_in};
 
 use crate::answer::{advance, faulted};
@@ -51,10 +50,12 @@ fn has_tag(tags: &[TagRef], t: &TagRef) -> bool
     tags.iter().any(|s| same_tag(t, s))
 }
 
-/// Binds an instance to an object behind those that it has, unless it has it, and gives `false` where it has too many.
+/// Binds an instance to an object behind those that it has, unless it has it, and gives `false` where it has too
+/// many.
 fn bind(alloc: Global, area: &mut Area, object: ObjectRef, t: TagRef) -> Result<bool, AllocError>
     requires { (b : Body) × (body_in area.old object ≡ Some b) }
-    ensures ok { IfOk result (λ bound. (p : Place) (b : Body) → body_in area.old object ≡ Some b → Binds bound p object b t area.old area.new) }
+    ensures ok { IfOk result (λ bound. (p : Place) (b : Body)
+        → body_in area.old object ≡ Some b → Binds bound p object b t area.old area.new) }
     ensures kept { KeepsGiven area.old area.new }
     ensures end { area.new.end ≡ area.old.end }
     ensures err { OnErr result (IsSame area.old area.new) }
@@ -81,7 +82,12 @@ pub(crate) fn bind_variable(
 ) -> Result<Option<Did>, AllocError>
     requires there { (b : Body) × (body_in area.old object ≡ Some b) }
     requires next { state.old.current.next < 18446744073709551615 }
-    ensures ok { IfOk result (λ did. (find : Work → Got Reached) (b : Body) (cs : List Written) (ts : List ℕ) → body_in area.old object ≡ Some b → Does (reached_at object b) area.old area.old find → AreCopies cs area.old.held → AnswersIf did state.old area.old state.new area.new (goes (and_then (find (state_with state.old area.old cs ts).work) (λ o w. and_then (known (slice_get (state_with state.old area.old cs ts).current.frame.tags variable) w) (λ t v. meant_bind at o t v))) (λ _ u. next (state_with state.old area.old cs ts) (state_with state.old area.old cs ts).stack u))) }
+    ensures ok { IfOk result (λ did. (find : Work → Got Reached) (b : Body) (cs : List Written) (ts : List ℕ)
+        → body_in area.old object ≡ Some b
+        → Does (reached_at object b) area.old area.old find
+        → AreCopies cs area.old.held
+        → AnswersIf did state.old area.old state.new area.new
+        (binds_next at variable find (state_with state.old area.old cs ts))) }
     ensures kept { KeepsGiven area.old area.new }
     ensures err { OnErr result (StaysPut state.old area.old state.new area.new) }
 {

@@ -55,28 +55,7 @@ fn set_slot(slots: &mut Vec<Value>, base: usize, n: u32, x: Value)
 fn same_value(x: Value, y: Value) -> bool
     ensures { result ≡ same_value x y }
 {
-    match x {
-        Value::Int(m) => match y {
-            Value::Int(n) => m == n,
-            _ => false,
-        },
-        Value::Bool(a) => match y {
-            Value::Bool(b) => { if a { b } else { !b } }
-            _ => false,
-        },
-        Value::Null => match y {
-            Value::Null => true,
-            _ => false,
-        },
-        Value::Old(m) => match y {
-            Value::Old(n) => m == n,
-            _ => false,
-        },
-        Value::New(m) => match y {
-            Value::New(n) => m == n,
-            _ => false,
-        },
-    }
+    x == y
 }
 
 #[inline]
@@ -201,7 +180,8 @@ impl State {
     #[inline]
     pub(crate) fn load(&mut self, n: u32) -> Result<Option<Did>, AllocError>
         requires { self.old.current.next < 18446744073709551615 }
-        ensures ok { IfOk result (λ did. (R : Reads) (code : Code) (at : Place) → Follows did self.old self.new (rule R code at (Instruction.Load n))) }
+        ensures ok { IfOk result (λ did. (R : Reads) (code : Code) (at : Place)
+            → Follows did self.old self.new (rule R code at (Instruction.Load n))) }
         ensures err { OnErr result (IsStill self.old self.new) }
     {
         match slot(&self.slots, self.current.base, n) {
@@ -213,7 +193,8 @@ impl State {
     #[inline]
     pub(crate) fn store(&mut self, n: u32) -> Option<Did>
         requires { self.old.current.next < 18446744073709551615 }
-        ensures { (R : Reads) (code : Code) (at : Place) → Follows result self.old self.new (rule R code at (Instruction.Store n)) }
+        ensures { (R : Reads) (code : Code) (at : Place)
+            → Follows result self.old self.new (rule R code at (Instruction.Store n)) }
     {
         match pop(&mut self.stack) {
             None => None,
@@ -228,7 +209,8 @@ impl State {
     #[inline]
     pub(crate) fn pop(&mut self) -> Option<Did>
         requires { self.old.current.next < 18446744073709551615 }
-        ensures { (R : Reads) (code : Code) (at : Place) → Follows result self.old self.new (rule R code at Instruction.Pop) }
+        ensures { (R : Reads) (code : Code) (at : Place)
+            → Follows result self.old self.new (rule R code at Instruction.Pop) }
     {
         match pop(&mut self.stack) {
             None => None,
@@ -242,7 +224,8 @@ impl State {
     #[inline]
     pub(crate) fn neg(&mut self) -> Option<Did>
         requires { self.old.current.next < 18446744073709551615 }
-        ensures { (R : Reads) (code : Code) (at : Place) → Follows result self.old self.new (rule R code at Instruction.Neg) }
+        ensures { (R : Reads) (code : Code) (at : Place)
+            → Follows result self.old self.new (rule R code at Instruction.Neg) }
     {
         let x = top(&self.stack)?;
         match negated(x) {
@@ -258,7 +241,8 @@ impl State {
     #[inline]
     pub(crate) fn not(&mut self) -> Option<Did>
         requires { self.old.current.next < 18446744073709551615 }
-        ensures { (R : Reads) (code : Code) (at : Place) → Follows result self.old self.new (rule R code at Instruction.Not) }
+        ensures { (R : Reads) (code : Code) (at : Place)
+            → Follows result self.old self.new (rule R code at Instruction.Not) }
     {
         let x = top(&self.stack)?;
         match inverted(x) {
@@ -292,7 +276,8 @@ impl State {
     #[inline]
     pub(crate) fn same(&mut self) -> Option<Did>
         requires { self.old.current.next < 18446744073709551615 }
-        ensures { (R : Reads) (code : Code) (at : Place) → Follows result self.old self.new (rule R code at Instruction.Same) }
+        ensures { (R : Reads) (code : Code) (at : Place)
+            → Follows result self.old self.new (rule R code at Instruction.Same) }
     {
         match top_two(&self.stack) {
             None => None,
@@ -307,7 +292,8 @@ impl State {
     #[inline]
     pub(crate) fn differ(&mut self) -> Option<Did>
         requires { self.old.current.next < 18446744073709551615 }
-        ensures { (R : Reads) (code : Code) (at : Place) → Follows result self.old self.new (rule R code at Instruction.Differ) }
+        ensures { (R : Reads) (code : Code) (at : Place)
+            → Follows result self.old self.new (rule R code at Instruction.Differ) }
     {
         match top_two(&self.stack) {
             None => None,

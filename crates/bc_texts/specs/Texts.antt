@@ -2,15 +2,14 @@
 use Rattle.std.specs.Prelude.{ℕ, ◌-◌, List, [], ◌∷◌, ◌++◌, length, take, codes, slice_get, Option, Some, None}
 use Rattle.std.specs.List.{flat_map}
 use Rattle.std.specs.Fmt.{decimal}
-use Rattle.bc_data.specs.Program.{Parts}
-use Rattle.bc_data.specs.declared.program.Task.{Task}
+use Rattle.bc_data.specs.Typed.{TypedProgram, TypedTask}
 use Rattle.bc_data.specs.declared.run.Invocation.{Invocation}
 use Rattle.bc_data.specs.declared.run.FaultKind.{FaultKind}
 use Rattle.bc_data.specs.declared.run.FaultKind.TheVariants as fault
 use Rattle.bc_data.specs.declared.run.Place.{Place}
 use Rattle.bc_data.specs.declared.run.Stop.{Stop}
 use Rattle.bc_data.specs.declared.run.Stop.TheVariants as stop
-use Rattle.bc_failed.specs.declared.entry.Failure.{Failure}
+use Rattle.bc_data.specs.declared.run.Failure.{Failure}
 use Rattle.bc_texts.specs.declared.refused.RefusedKind.{RefusedKind}
 use Rattle.bc_texts.specs.declared.refused.RefusedKind.TheVariants as refused
 
@@ -32,7 +31,7 @@ kind_name fault.Cells = codes "Cells"
 kind_name fault.Tags = codes "Tags"
 kind_name fault.Output = codes "Output"
 
-abbrev pub task_name : Option Task → List ℕ
+abbrev pub task_name : Option TypedTask → List ℕ
 task_name None = []
 task_name (Some t) = t.name
 
@@ -50,7 +49,7 @@ tags_text [] = []
 tags_text (n ∷ ns) = 124 ∷ joined (n ∷ ns)
 
 -- as `join(2,3|0)`
-abbrev pub invocation_text : Parts → Invocation → List ℕ
+abbrev pub invocation_text : TypedProgram → Invocation → List ℕ
 invocation_text P v = task_name (slice_get P.tasks v.task) ++ codes "(" ++ joined v.objects ++ tags_text v.tags ++ codes ")"
 
 -- as `3:14`
@@ -58,7 +57,7 @@ abbrev pub place_text : Place → List ℕ
 place_text at = decimal at.line ++ codes ":" ++ decimal at.column
 
 -- as `failed: boom(0): Assert at 3:3`
-abbrev pub failure_line : Parts → Failure → List ℕ
+abbrev pub failure_line : TypedProgram → Failure → List ℕ
 failure_line P f = codes "failed: " ++ invocation_text P f.v ++ codes ": " ++ kind_name f.fault.kind ++ codes " at " ++ place_text f.fault.at ++ line_feed
 
 -- so many were committed, and so many fail
@@ -66,7 +65,7 @@ abbrev pub end_line : ℕ → ℕ → List ℕ
 end_line committed failed = codes "end: " ++ decimal committed ++ codes " committed, " ++ decimal failed ++ codes " failed" ++ line_feed
 
 -- the end line, and the lines of the first 20 failures
-abbrev pub end_text : Parts → ℕ → List Failure → List ℕ
+abbrev pub end_text : TypedProgram → ℕ → List Failure → List ℕ
 end_text P committed failures = end_line committed (length failures) ++ flat_map (failure_line P) (take 20 failures)
 
 abbrev pub spent_text : ℕ → List ℕ
@@ -79,7 +78,7 @@ abbrev pub memory_text : List ℕ
 memory_text = codes "memory" ++ line_feed
 
 -- what a run tells of its end
-abbrev pub stop_text : Parts → Stop → ℕ → List Failure → List ℕ
+abbrev pub stop_text : TypedProgram → Stop → ℕ → List Failure → List ℕ
 stop_text P stop.End committed failures = end_text P committed failures
 stop_text P (stop.Spent v) committed failures = spent_text committed
 stop_text P (stop.Crowded v) committed failures = crowded_text committed

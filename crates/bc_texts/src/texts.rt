@@ -8,9 +8,8 @@ ghost use Rattle.bc_texts.specs.Texts.{kind_name, joined, behind_comma, tags_tex
 use crate::refused::RefusedKind;
 use bc_data::list::Bytes;
 use bc_data::program::{Program, Task};
-use bc_data::run::{FaultKind, Invocation, Place};
+use bc_data::run::{Failure, FaultKind, Invocation, Place};
 use bc_data::text::natural;
-use bc_failed::entry::Failure;
 use std::alloc::{AllocError, Global};
 
 /// The name of a kind of fault.
@@ -72,7 +71,7 @@ fn push_name(text: &mut Bytes, tasks: &[Task], task: usize) -> Result<(), AllocE
     ensures { OnOk result (text.new ≡ text.old ++ task_name (slice_get tasks.now task)) }
 {
     if task < tasks.len() {
-        text.extend_from_slice(tasks[task].name.as_slice())?;
+        text.extend_from_slice(tasks[task].name())?;
     }
     Ok(())
 }

@@ -3,7 +3,7 @@ use Rattle.std.proofs.Common.{◌≡◌, ℕ, ◌+◌, ◌<◌, List, [], ◌∷
 use Rattle.std.proofs.lemmas.List.{take_more, map-append}
 use Rattle.bc_data.specs.SourceTree.{Sequence, Empty, More}
 use Rattle.bc_data.specs.View.{onto, onto_by}
-use Rattle.bc_rules.specs.Declared.{fold_all}
+use Rattle.bc_types_rules.specs.Declared.{fold_all}
 
 onto_push : {A : Type 0} (xs : List A) (x : A) (front : Sequence A) → onto (xs ++ x ∷ []) front ≡ More (onto xs front) x
 onto_push [] x front = refl

@@ -7,13 +7,13 @@ use Rattle.bc_data.specs.SourceTree as source
 use Rattle.bc_data.specs.SourceTree.{Sequence, Empty, More, TagTypeItem, ClassItem, TaskItem}
 use Rattle.bc_data.specs.View.{onto_by}
 use Rattle.bc_data.specs.declared.tree.Named.{Named}
-use Rattle.bc_rules.specs.Got.{Got, Gives, Twice, TooMany, ask}
-use Rattle.bc_rules.specs.Numbering.{Space, Spaces, number_of, declare, declare_item, declare_member, no_members, numbering, startup_spaces, try_fold}
+use Rattle.bc_types_rules.specs.Got.{Got, Gives, Twice, TooMany, ask}
+use Rattle.bc_types_rules.specs.Numbering.{Space, Spaces, number_of, declare, declare_item, declare_member, no_members, numbering, startup_spaces, try_fold}
 use Rattle.bc_data.specs.Typed.{TypedProgram}
-use Rattle.bc_rules.specs.Context.{Names}
-use Rattle.bc_rules.specs.Bodies.{check_task}
-use Rattle.bc_rules.specs.Walk.{check_item, walk}
-use Rattle.bc_rules.proofs.Steps.{step_back, gives_eq, asked}
+use Rattle.bc_types_rules.specs.Context.{Names}
+use Rattle.bc_types_rules.specs.Bodies.{check_task}
+use Rattle.bc_types_rules.specs.Walk.{check_item, walk}
+use Rattle.bc_types_rules.proofs.Steps.{step_back, gives_eq, asked}
 use Rattle.bc_types.proofs.Folds.{onto_by-append}
 
 -- a declaration adds a name, and stays within the limit

@@ -3,12 +3,12 @@ use Rattle.std.proofs.Common.{◌≡◌, ℕ, [], ◌∷◌, ◌++◌, length, a
 use Rattle.bc_data.specs.SourceTree as source
 use Rattle.bc_data.specs.SourceTree.{Sequence, ClassItem}
 use Rattle.bc_data.specs.declared.tree.Named.{Named}
-use Rattle.bc_rules.specs.Got.{Gives, ◌>>=◌}
-use Rattle.bc_rules.specs.Numbering.{Spaces, number_of, numbering, try_fold}
+use Rattle.bc_types_rules.specs.Got.{Gives, ◌>>=◌}
+use Rattle.bc_types_rules.specs.Numbering.{Spaces, number_of, numbering, try_fold}
 use Rattle.bc_data.specs.Typed.{TypedClass, TypedProgram}
-use Rattle.bc_rules.specs.Context.{Names}
-use Rattle.bc_rules.specs.Declared.{names_by, names_of, types_of}
-use Rattle.bc_rules.specs.Walk.{check, check_item, check_member, empty_class, walk}
+use Rattle.bc_types_rules.specs.Context.{Names}
+use Rattle.bc_types_rules.specs.Declared.{names_by, names_of, types_of}
+use Rattle.bc_types_rules.specs.Walk.{check, check_item, check_member, empty_class, walk}
 use Rattle.bc_names.specs.Answers.{Stops}
 use Rattle.bc_names.specs.declared.fault.TypeFault.{TypeFault}
 use Rattle.bc_names.specs.declared.fault.TypeFault.TheVariants as fault

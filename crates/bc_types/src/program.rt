@@ -1,9 +1,8 @@
 // Whole programs.
 
 ghost use Rattle.bc_data.specs.View.{view_tree};
-ghost use Rattle.bc_data.specs.ProgramView.{view_program};
-ghost use Rattle.bc_rules.specs.Walk.{check};
-ghost use Rattle.bc_accepted.specs.Laws.{IsGrammatical};
+ghost use Rattle.bc_types_rules.specs.Walk.{check};
+ghost use Rattle.bc_law_accepted.specs.Laws.{IsGrammatical};
 ghost use Rattle.bc_names.specs.Answers.{Answers};
 
 use crate::types::types_of;
@@ -18,7 +17,7 @@ use std::alloc::Global;
 /// what stands under them, both in the order of the text.
 pub fn check(alloc: Global, tree: &Tree) -> Result<Program, TypeFault>
     requires { IsGrammatical (view_tree tree.now) }
-    ensures { Answers result view_program (check (view_tree tree.now)) }
+    ensures { Answers result (λ p. p) (check (view_tree tree.now)) }
 {
     let names = number(alloc, tree)?;
     let types = types_of(alloc, &names, &tree.items)?;

@@ -3,9 +3,9 @@
 ghost use Rattle.std.specs.Prelude.{◌≡◌, IfOk, OnOk, option_map};
 ghost use Rattle.bc_data.specs.SourceTree.{Empty};
 ghost use Rattle.bc_data.specs.View.{onto, onto_by, view_member, view_method, view_text_item};
-ghost use Rattle.bc_rules.specs.Context.{array_or_one, class_type, type_of};
-ghost use Rattle.bc_rules.specs.Declared.{fold_all, no_types, signature_of, startup_types, type_of_result, types_of, types_of_formals, with_item, with_member};
-ghost use Rattle.bc_rules.specs.Numbering.{number_of};
+ghost use Rattle.bc_types_rules.specs.Context.{array_or_one, class_type, type_of};
+ghost use Rattle.bc_types_rules.specs.Declared.{fold_all, no_types, signature_of, startup_types, type_of_result, types_of, types_of_formals, with_item, with_member};
+ghost use Rattle.bc_types_rules.specs.Numbering.{number_of};
 ghost use Rattle.bc_types_expr.specs.Looks.{all_types_seen, class_types_seen, signature_seen};
 ghost use Rattle.bc_types_expr.specs.Types.{type_seen, types_seen};
 

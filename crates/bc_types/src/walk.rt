@@ -3,11 +3,10 @@
 ghost use Rattle.std.specs.Prelude.{◌≡◌, ◌≤◌, IfOk, length};
 ghost use Rattle.bc_data.specs.SourceTree.{ClassItem, Empty};
 ghost use Rattle.bc_data.specs.View.{onto_by, view_member, view_text_item};
-ghost use Rattle.bc_rules.specs.Got.{Gives};
-ghost use Rattle.bc_rules.specs.Numbering.{numbering};
-ghost use Rattle.bc_data.specs.ProgramView.{view_program};
+ghost use Rattle.bc_types_rules.specs.Got.{Gives};
+ghost use Rattle.bc_types_rules.specs.Numbering.{numbering};
 ghost use Rattle.bc_data.specs.WellTyped.{IsWellTyped};
-ghost use Rattle.bc_rules.specs.Walk.{check_item, startup_program, walk};
+ghost use Rattle.bc_types_rules.specs.Walk.{check_item, startup_program, walk};
 ghost use Rattle.bc_names.specs.Answers.{Answers};
 ghost use Rattle.bc_types_expr.specs.Looks.{looks};
 ghost use Rattle.bc_types.specs.Parts.{parts_seen};
@@ -76,7 +75,7 @@ impl Parts {
     /// The program with these parts.
     pub fn into_program(self) -> Program
         requires { IsWellTyped (parts_seen self) }
-        ensures { view_program result ≡ parts_seen self }
+        ensures { result ≡ parts_seen self }
     {
         let Parts {
             classes,

@@ -13,12 +13,12 @@ use Rattle.bc_data.specs.declared.tree.ActionText.{ActionText}
 use Rattle.bc_data.specs.declared.tree.ExprText.{ExprText}
 use Rattle.bc_data.specs.declared.tree.ExprText.TheVariants as expr
 use Rattle.bc_data.specs.declared.program.Expr.{Expr}
-use Rattle.bc_rules.specs.Got.{Got, Gives, ◌>>=◌}
+use Rattle.bc_types_rules.specs.Got.{Got, Gives, ◌>>=◌}
 use Rattle.bc_data.specs.Typed.{TypedExpressions, NoArg, Arg}
-use Rattle.bc_rules.specs.Context.{Context, Scope}
-use Rattle.bc_rules.specs.Expressions as rules
-use Rattle.bc_rules.specs.Expressions.{infer, infer_all, place_of, check_call}
-use Rattle.bc_rules.specs.Statements.{infer_call}
+use Rattle.bc_types_rules.specs.Context.{Context, Scope}
+use Rattle.bc_types_rules.specs.Expressions as rules
+use Rattle.bc_types_rules.specs.Expressions.{infer, infer_all, place_of, check_call}
+use Rattle.bc_types_rules.specs.Statements.{infer_call}
 use Rattle.bc_data.specs.ProgramView.{view_expr, expr_views}
 use Rattle.bc_names.specs.Answers.{Answers, Stops}
 use Rattle.bc_names.specs.declared.fault.TypeFault.{TypeFault}

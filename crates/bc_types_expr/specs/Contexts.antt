@@ -1,5 +1,5 @@
 -- Where a body stands, as contracts see it.
-use Rattle.bc_rules.specs.Context.{Context}
+use Rattle.bc_types_rules.specs.Context.{Context}
 use Rattle.bc_types_expr.specs.Looks.{looks}
 use Rattle.bc_types_expr.specs.declared.inside.Inside.{Inside}
 

@@ -1,6 +1,6 @@
 -- Checked expressions as contracts see them.
 use Rattle.std.specs.Prelude.{List, map, option_map}
-use Rattle.bc_rules.specs.Expressions as rules
+use Rattle.bc_types_rules.specs.Expressions as rules
 use Rattle.bc_data.specs.Typed.{NoArg}
 use Rattle.bc_data.specs.ProgramView.{view_expr, expr_views}
 use Rattle.bc_types_expr.specs.Types.{type_seen}

@@ -1,8 +1,8 @@
 -- What a table says of names.
 use Rattle.std.specs.Prelude.{List, map, option_map}
-use Rattle.bc_rules.specs.Context as rules
-use Rattle.bc_rules.specs.Declared as declared
-use Rattle.bc_rules.specs.Declared.{names_by}
+use Rattle.bc_types_rules.specs.Context as rules
+use Rattle.bc_types_rules.specs.Declared as declared
+use Rattle.bc_types_rules.specs.Declared.{names_by}
 use Rattle.bc_types_expr.specs.Types.{type_seen, types_seen}
 use Rattle.bc_types_expr.specs.declared.table.Signature.{Signature}
 use Rattle.bc_types_expr.specs.declared.table.ClassTypes.{ClassTypes}

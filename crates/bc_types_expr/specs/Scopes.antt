@@ -1,8 +1,8 @@
 -- Scopes as contracts see them.
 use Rattle.std.specs.Prelude.{ℕ, List, map, nat_lt, take}
 use Rattle.bc_data.specs.declared.program.Shape.{Shape}
-use Rattle.bc_rules.specs.Got.{Got, Gives, Twice, TooMany, ask, ◌>>◌}
-use Rattle.bc_rules.specs.Context as rules
+use Rattle.bc_types_rules.specs.Got.{Got, Gives, Twice, TooMany, ask, ◌>>◌}
+use Rattle.bc_types_rules.specs.Context as rules
 use Rattle.bc_data.specs.declared.tree.Named.{Named}
 use Rattle.bc_types_expr.specs.declared.scope.Meaning.{Meaning}
 use Rattle.bc_types_expr.specs.declared.scope.Meaning.TheVariants as meaning

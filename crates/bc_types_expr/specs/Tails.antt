@@ -8,11 +8,11 @@ use Rattle.bc_data.specs.declared.run.Place.{Place}
 use Rattle.bc_data.specs.declared.program.Op.{Op}
 use Rattle.bc_data.specs.declared.program.Shape.TheVariants as shape
 use Rattle.bc_data.specs.Shapes.{result_shape, shape_of_kind}
-use Rattle.bc_rules.specs.Got.{Got, Gives, Unknown, Mismatch, Misplaced, ask, find, ◌>>=◌, ◌>>◌}
-use Rattle.bc_rules.specs.Numbering.{try_fold}
+use Rattle.bc_types_rules.specs.Got.{Got, Gives, Unknown, Mismatch, Misplaced, ask, find, ◌>>=◌, ◌>>◌}
+use Rattle.bc_types_rules.specs.Numbering.{try_fold}
 use Rattle.bc_data.specs.Typed as typed
-use Rattle.bc_rules.specs.Context.{Known, Names, Scope, field_at, meaning_of, is_int, is_bool, element_of}
-use Rattle.bc_rules.specs.Expressions.{Typed, Arguments, Called, array_at, check_arguments, check_call, check_tweak, slot_value, takes}
+use Rattle.bc_types_rules.specs.Context.{Known, Names, Scope, field_at, meaning_of, is_int, is_bool, element_of}
+use Rattle.bc_types_rules.specs.Expressions.{Typed, Arguments, Called, array_at, check_arguments, check_call, check_tweak, slot_value, takes}
 
 abbrev pub this_object : Option ℕ → Place → Got Typed
 this_object me at = do

@@ -1,6 +1,6 @@
 -- Types of values as contracts see them.
 use Rattle.std.specs.Prelude.{List, map}
-use Rattle.bc_rules.specs.Context as rules
+use Rattle.bc_types_rules.specs.Context as rules
 use Rattle.bc_types_expr.specs.declared.value_type.ValueType.{ValueType}
 use Rattle.bc_types_expr.specs.declared.value_type.ValueType.TheVariants as value_type
 

@@ -1,7 +1,7 @@
 // What is asked for at a place.
 
 ghost use Rattle.std.specs.Prelude.{◌≡◌, IsTrue, OnOk};
-ghost use Rattle.bc_rules.specs.Got.{ask};
+ghost use Rattle.bc_types_rules.specs.Got.{ask};
 ghost use Rattle.bc_names.specs.Answers.{Answers, kind_of};
 
 use bc_data::run::Place;

@@ -2,7 +2,7 @@
 
 ghost use Rattle.std.specs.Prelude.{◌≡◌, length, ◌==◌, IfOk, IsTrue};
 ghost use Rattle.bc_data.specs.Typed.{Call, NoArg};
-ghost use Rattle.bc_rules.specs.Expressions.{check_arguments, check_call, check_fits};
+ghost use Rattle.bc_types_rules.specs.Expressions.{check_arguments, check_call, check_fits};
 ghost use Rattle.bc_data.specs.ProgramView.{expr_views, view_expr};
 ghost use Rattle.bc_names.specs.Answers.{Answers};
 ghost use Rattle.bc_types_expr.specs.Types.{types_seen};

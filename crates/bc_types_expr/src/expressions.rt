@@ -2,8 +2,8 @@
 
 ghost use Rattle.bc_data.specs.SourceTree.{NoArg};
 ghost use Rattle.bc_data.specs.View.{view, views};
-ghost use Rattle.bc_rules.specs.Expressions.{infer, infer_all};
-ghost use Rattle.bc_rules.specs.Statements.{infer_call};
+ghost use Rattle.bc_types_rules.specs.Expressions.{infer, infer_all};
+ghost use Rattle.bc_types_rules.specs.Statements.{infer_call};
 ghost use Rattle.bc_names.specs.Answers.{Answers};
 ghost use Rattle.bc_types_expr.specs.Contexts.{context_of};
 ghost use Rattle.bc_types_expr.specs.Expressions.{arguments_seen, called_seen, typed_seen};

@@ -1,11 +1,11 @@
 // What a name means where it is written, or the fault that it doesn't.
 
 ghost use Rattle.std.specs.Prelude.{◌≡◌};
-ghost use Rattle.bc_rules.specs.Got.{find};
-ghost use Rattle.bc_rules.specs.Context.{array_or_one, shape_at, tag_variable_at};
+ghost use Rattle.bc_types_rules.specs.Got.{find};
+ghost use Rattle.bc_types_rules.specs.Context.{array_or_one, shape_at, tag_variable_at};
 ghost use Rattle.bc_names.specs.Answers.{Answers};
 ghost use Rattle.bc_names.specs.declared.fault.TypeKind.TheVariants.{Unknown};
-ghost use Rattle.bc_rules.specs.Got as rules;
+ghost use Rattle.bc_types_rules.specs.Got as rules;
 ghost use Rattle.bc_types_expr.specs.Looks.{looks};
 
 use crate::scope::{Meaning, Scope};

@@ -1,7 +1,7 @@
 // Fields, lengths and elements.
 
 ghost use Rattle.std.specs.Prelude.{◌≡◌};
-ghost use Rattle.bc_rules.specs.Context.{class_before};
+ghost use Rattle.bc_types_rules.specs.Context.{class_before};
 ghost use Rattle.bc_names.specs.Answers.{Answers};
 ghost use Rattle.bc_types_expr.specs.Types.{type_seen};
 ghost use Rattle.bc_types_expr.specs.Looks.{looks};

@@ -2,7 +2,7 @@
 
 ghost use Rattle.std.specs.Prelude.{◌≡◌};
 ghost use Rattle.bc_data.specs.Shapes.{result_shape};
-ghost use Rattle.bc_rules.specs.Expressions.{takes};
+ghost use Rattle.bc_types_rules.specs.Expressions.{takes};
 ghost use Rattle.bc_names.specs.Answers.{Answers};
 ghost use Rattle.bc_types_expr.specs.Types.{type_seen};
 ghost use Rattle.bc_types_expr.specs.Expressions.{typed_seen};

@@ -1,7 +1,7 @@
 // Names in scope.
 
 ghost use Rattle.std.specs.Prelude.{◌≡◌, ◌++◌, ◌∷◌, [], ◌<◌, ◌≤◌, ◌+◌, length, OnOk, option_map};
-ghost use Rattle.bc_rules.specs.Context.{declare_slot, declare_tag, find_in, is_free, may_declare, meaning_of, method_scope, task_scope, with_parameter, with_slot, with_tag};
+ghost use Rattle.bc_types_rules.specs.Context.{declare_slot, declare_tag, find_in, is_free, may_declare, meaning_of, method_scope, task_scope, with_parameter, with_slot, with_tag};
 ghost use Rattle.bc_names.specs.Answers.{Answers};
 ghost use Rattle.bc_types_expr.specs.Scopes.{declare_formal, declare_variable, may_be_parameter, known_seen, meaning_seen, named_as, with_first};
 
@@ -46,7 +46,7 @@ pub struct Scope {
 
 impl Model for Scope {
     ghost use Rattle.std.specs.Prelude.{◌≤◌, ◌+◌};
-    ghost use Rattle.bc_rules.specs.Context as rules;
+    ghost use Rattle.bc_types_rules.specs.Context as rules;
     ghost use Rattle.bc_types_expr.specs.Scopes.{declare_formal, declare_variable, may_be_parameter, known_seen};
 
     ghost Value = { rules.Scope };

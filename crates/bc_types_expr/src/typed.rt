@@ -2,7 +2,7 @@
 
 ghost use Rattle.std.specs.Prelude.{◌≡◌};
 ghost use Rattle.bc_data.specs.View.{view};
-ghost use Rattle.bc_rules.specs.Expressions.{place_of};
+ghost use Rattle.bc_types_rules.specs.Expressions.{place_of};
 
 use crate::value_type::ValueType;
 use bc_data::program::Expr;

@@ -2,7 +2,7 @@
 
 ghost use Rattle.std.specs.Prelude.{◌≡◌, Some, None, IfOk, is_some, option_map};
 ghost use Rattle.bc_data.specs.Shapes.{is_null, is_reference, same_shape};
-ghost use Rattle.bc_rules.specs.Context.{fits, is_bool, is_int, same_flag, element_of};
+ghost use Rattle.bc_types_rules.specs.Context.{fits, is_bool, is_int, same_flag, element_of};
 ghost use Rattle.bc_types_expr.specs.Types.{type_seen};
 
 use bc_data::list::Bytes;

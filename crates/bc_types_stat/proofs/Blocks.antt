@@ -7,13 +7,13 @@ use Rattle.bc_data.specs.View.{view_stat, stat_views}
 use Rattle.bc_data.specs.declared.run.Place.{Place}
 use Rattle.bc_data.specs.declared.tree.StatText.{StatText}
 use Rattle.bc_data.specs.declared.program.Stat.{Stat}
-use Rattle.bc_rules.specs.Got.{Got, Gives, Fails, Kind, Twice, TooMany, Unknown, Mismatch, Fixed, Misplaced, ask, find, ◌>>=◌}
+use Rattle.bc_types_rules.specs.Got.{Got, Gives, Fails, Kind, Twice, TooMany, Unknown, Mismatch, Fixed, Misplaced, ask, find, ◌>>=◌}
 use Rattle.bc_data.specs.Typed as typed
 use Rattle.bc_data.specs.Typed.{TypedStatements}
-use Rattle.bc_rules.specs.Numbering.{try_fold}
-use Rattle.bc_rules.specs.Expressions.{infer, place_of}
-use Rattle.bc_rules.specs.Context.{Known, Context, InScope, Scope, is_free, with_slot, with_tag, declare_tag, ended, shape_at, fits, is_bool}
-use Rattle.bc_rules.specs.Statements.{Stated, AllStated, is_parameter, assignment, infer_call, read_item, check_parts, none_named, check_change, state, state_all}
+use Rattle.bc_types_rules.specs.Numbering.{try_fold}
+use Rattle.bc_types_rules.specs.Expressions.{infer, place_of}
+use Rattle.bc_types_rules.specs.Context.{Known, Context, InScope, Scope, is_free, with_slot, with_tag, declare_tag, ended, shape_at, fits, is_bool}
+use Rattle.bc_types_rules.specs.Statements.{Stated, AllStated, is_parameter, assignment, infer_call, read_item, check_parts, none_named, check_change, state, state_all}
 use Rattle.bc_data.specs.ProgramView.{view_program_stat, program_stat_views}
 use Rattle.bc_names.specs.Answers.{Stops, kind_of}
 use Rattle.bc_names.specs.declared.fault.TypeFault.{TypeFault}

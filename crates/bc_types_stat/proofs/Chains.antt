@@ -1,7 +1,7 @@
 -- Chains of results.
 use Rattle.std.proofs.Common.{◌≡◌, Result, Ok, Err, refl, ap}
-use Rattle.bc_rules.specs.Got.{Got, Gives, Fails, ◌>>=◌}
-use Rattle.bc_rules.specs.Context as rules
+use Rattle.bc_types_rules.specs.Got.{Got, Gives, Fails, ◌>>=◌}
+use Rattle.bc_types_rules.specs.Context as rules
 use Rattle.bc_data.specs.Typed.{TypedStatement}
 use Rattle.bc_names.specs.Answers.{Answers, Stops}
 use Rattle.bc_names.specs.declared.fault.TypeFault.{TypeFault}

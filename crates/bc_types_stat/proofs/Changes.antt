@@ -4,10 +4,10 @@ use Rattle.std.specs.List.{list_any}
 use Rattle.bc_data.specs.SourceTree.{Sequence, ChangeOf}
 use Rattle.bc_data.specs.declared.tree.Named.{Named}
 use Rattle.bc_data.specs.declared.tree.ActionText.{ActionText}
-use Rattle.bc_rules.specs.Got.{Got, Gives, Twice, Unknown, ask, find, ◌>>=◌}
-use Rattle.bc_rules.specs.Numbering.{try_fold}
-use Rattle.bc_rules.specs.Context.{Names, Scope, meaning_of}
-use Rattle.bc_rules.specs.Statements.{Exiting, Parameter, parameter_of, check_action, check_change}
+use Rattle.bc_types_rules.specs.Got.{Got, Gives, Twice, Unknown, ask, find, ◌>>=◌}
+use Rattle.bc_types_rules.specs.Numbering.{try_fold}
+use Rattle.bc_types_rules.specs.Context.{Names, Scope, meaning_of}
+use Rattle.bc_types_rules.specs.Statements.{Exiting, Parameter, parameter_of, check_action, check_change}
 use Rattle.bc_names.specs.Answers.{Stops}
 use Rattle.bc_names.specs.declared.fault.TypeFault.{TypeFault}
 use Rattle.bc_types_stat.proofs.Chains.{goes_on, stops_then}

@@ -8,12 +8,12 @@ use Rattle.bc_data.specs.declared.tree.StatText.{StatText}
 use Rattle.bc_data.specs.declared.tree.StatText.TheVariants as stat
 use Rattle.bc_data.specs.declared.program.Stat.{Stat}
 use Rattle.bc_data.specs.declared.program.Stat as code
-use Rattle.bc_rules.specs.Got.{Got, Gives, Mismatch, ask, ◌>>=◌}
+use Rattle.bc_types_rules.specs.Got.{Got, Gives, Mismatch, ask, ◌>>=◌}
 use Rattle.bc_data.specs.Typed as typed
 use Rattle.bc_data.specs.Typed.{TypedStatement}
-use Rattle.bc_rules.specs.Context.{Context, Scope, ended, is_bool}
-use Rattle.bc_rules.specs.Expressions.{Typed, infer, place_of}
-use Rattle.bc_rules.specs.Statements.{Stated, AllStated, state, state_all}
+use Rattle.bc_types_rules.specs.Context.{Context, Scope, ended, is_bool}
+use Rattle.bc_types_rules.specs.Expressions.{Typed, infer, place_of}
+use Rattle.bc_types_rules.specs.Statements.{Stated, AllStated, state, state_all}
 use Rattle.bc_data.specs.ProgramView.{view_program_stat, program_stat_views}
 use Rattle.bc_names.specs.Answers.{Answers, Stops}
 use Rattle.bc_names.specs.declared.fault.TypeFault.{TypeFault}

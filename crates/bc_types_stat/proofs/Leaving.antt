@@ -6,7 +6,7 @@ use Rattle.bc_data.specs.declared.run.Place.{Place}
 use Rattle.bc_data.specs.declared.tree.ExprText.{ExprText}
 use Rattle.bc_data.specs.declared.tree.StatText.{StatText}
 use Rattle.bc_data.specs.declared.tree.StatText.TheVariants as stat
-use Rattle.bc_rules.specs.Statements.{leaves, all_leave}
+use Rattle.bc_types_rules.specs.Statements.{leaves, all_leave}
 use Rattle.bc_types_stat.proofs.Rows.{view_block, view_if_else}
 
 pub leaves_block : (at : Place) (body : Vec StatText Global) → leaves (view_stat (stat.Block at body)) ≡ all_leave (stat_views body.items Nothing)

@@ -4,11 +4,11 @@ use Rattle.std.specs.Prelude.{nat_lt}
 use Rattle.bc_data.specs.SourceTree.{Sequence, Guard, ParamOf}
 use Rattle.bc_data.specs.declared.tree.Named.{Named}
 use Rattle.bc_data.specs.declared.tree.Bind.{Bind}
-use Rattle.bc_rules.specs.Got.{Got, Gives, Twice, TooMany, Unknown, ask, find, ◌>>=◌}
-use Rattle.bc_rules.specs.Numbering.{try_fold}
+use Rattle.bc_types_rules.specs.Got.{Got, Gives, Twice, TooMany, Unknown, ask, find, ◌>>=◌}
+use Rattle.bc_types_rules.specs.Numbering.{try_fold}
 use Rattle.bc_data.specs.Typed.{TypedGuard}
-use Rattle.bc_rules.specs.Context.{Names, is_free, with_parameter}
-use Rattle.bc_rules.specs.Bodies.{Params, Binds, check_bind, check_guard, check_param}
+use Rattle.bc_types_rules.specs.Context.{Names, is_free, with_parameter}
+use Rattle.bc_types_rules.specs.Bodies.{Params, Binds, check_bind, check_guard, check_param}
 use Rattle.bc_types_expr.specs.Scopes.{may_be_parameter}
 use Rattle.bc_types_stat.specs.Bodies.{unbound}
 use Rattle.bc_types_stat.proofs.Chains.{assoc, goes_on}

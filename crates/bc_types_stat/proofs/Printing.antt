@@ -2,13 +2,13 @@
 use Rattle.std.proofs.Common.{◌≡◌, List, [], ◌∷◌, ◌++◌, refl, ap, sym, ◌∙◌, subst}
 use Rattle.bc_data.specs.SourceTree.{Sequence, Empty, More, PrintItem, TextItem, ValueItem, Print}
 use Rattle.bc_data.specs.declared.run.Place.{Place}
-use Rattle.bc_rules.specs.Got.{Got, Gives, Fails, ◌>>=◌}
-use Rattle.bc_rules.specs.Numbering.{try_fold}
+use Rattle.bc_types_rules.specs.Got.{Got, Gives, Fails, ◌>>=◌}
+use Rattle.bc_types_rules.specs.Numbering.{try_fold}
 use Rattle.bc_data.specs.Typed as typed
 use Rattle.bc_data.specs.Typed.{TypedPart}
-use Rattle.bc_rules.specs.Context.{Context, Scope}
-use Rattle.bc_rules.specs.Expressions.{Typed, infer, place_of}
-use Rattle.bc_rules.specs.Statements.{Stated, ReadItem, ReadText, ReadValue, read_item, check_part, check_parts, state}
+use Rattle.bc_types_rules.specs.Context.{Context, Scope}
+use Rattle.bc_types_rules.specs.Expressions.{Typed, infer, place_of}
+use Rattle.bc_types_rules.specs.Statements.{Stated, ReadItem, ReadText, ReadValue, read_item, check_part, check_parts, state}
 use Rattle.bc_names.specs.Answers.{Stops}
 use Rattle.bc_names.specs.declared.fault.TypeFault.{TypeFault}
 use Rattle.bc_types_stat.specs.Bodies.{read_next, stated, with_part}

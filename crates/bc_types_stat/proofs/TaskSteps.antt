@@ -4,11 +4,11 @@ use Rattle.std.specs.List.{filter_map}
 use Rattle.bc_data.specs.SourceTree.{Sequence, Param, Statements}
 use Rattle.bc_data.specs.declared.run.Place.{Place}
 use Rattle.bc_data.specs.declared.tree.Named.{Named}
-use Rattle.bc_rules.specs.Got.{Got, Gives, ◌>>=◌}
+use Rattle.bc_types_rules.specs.Got.{Got, Gives, ◌>>=◌}
 use Rattle.bc_data.specs.Typed.{TypedStatements, TypedTask}
-use Rattle.bc_rules.specs.Context.{Context, Names, Scope, ended}
-use Rattle.bc_rules.specs.Statements.{AllStated, state_all}
-use Rattle.bc_rules.specs.Bodies.{Params, check_task, type_of_tag}
+use Rattle.bc_types_rules.specs.Context.{Context, Names, Scope, ended}
+use Rattle.bc_types_rules.specs.Statements.{AllStated, state_all}
+use Rattle.bc_types_rules.specs.Bodies.{Params, check_task, type_of_tag}
 use Rattle.bc_names.specs.Answers.{Stops}
 use Rattle.bc_names.specs.declared.fault.TypeFault.{TypeFault}
 use Rattle.bc_types_stat.specs.Bodies.{all_stated, block_of, check_params}

@@ -5,10 +5,10 @@ use Rattle.std.specs.List.{filter_map}
 use Rattle.std.proofs.lemmas.Bool.{ltb-true}
 use Rattle.std.proofs.lemmas.List.Elements.{filter_map-append}
 use Rattle.bc_data.specs.declared.tree.Named.{Named}
-use Rattle.bc_rules.specs.Got.{Gives, TooMany, ask}
-use Rattle.bc_rules.specs.Bodies.{type_of_tag}
-use Rattle.bc_rules.specs.Context.{ParameterIs, Scope, TagIs, with_parameter, with_tag}
-use Rattle.bc_rules.proofs.Steps.{asked, gives_eq, step_back}
+use Rattle.bc_types_rules.specs.Got.{Gives, TooMany, ask}
+use Rattle.bc_types_rules.specs.Bodies.{type_of_tag}
+use Rattle.bc_types_rules.specs.Context.{ParameterIs, Scope, TagIs, with_parameter, with_tag}
+use Rattle.bc_types_rules.proofs.Steps.{asked, gives_eq, step_back}
 use Rattle.bc_types_expr.specs.Scopes.{declare_variable}
 use Rattle.std.proofs.lemmas.List.{append-nil}
 

@@ -2,8 +2,8 @@
 use Rattle.std.proofs.Common.{◌≡◌, ℕ, ◌+◌, ◌<◌, List, [], ◌∷◌, length, take, get_or, refl, ap, sym, ◌∙◌, subst}
 use Rattle.bc_data.specs.SourceTree.{Sequence, Empty, More}
 use Rattle.bc_data.specs.View.{onto, onto_by}
-use Rattle.bc_rules.specs.Got.{Got, Gives}
-use Rattle.bc_rules.specs.Numbering.{try_fold}
+use Rattle.bc_types_rules.specs.Got.{Got, Gives}
+use Rattle.bc_types_rules.specs.Numbering.{try_fold}
 use Rattle.bc_names.specs.Answers.{Stops}
 use Rattle.bc_names.specs.declared.fault.TypeFault.{TypeFault}
 use Rattle.bc_names.proofs.Walk.{walk_on, walk_stops}

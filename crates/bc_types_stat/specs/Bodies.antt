@@ -2,18 +2,18 @@
 use Rattle.std.specs.Prelude.{List, [], ◌∷◌, ◌++◌, map, Some, None, Result, Ok, Err}
 use Rattle.bc_data.specs.SourceTree.{Sequence, PrintItem, TextItem, ValueItem, Statements, Param}
 use Rattle.bc_data.specs.declared.tree.Formal.{Formal}
-use Rattle.bc_rules.specs.Numbering.{try_fold}
+use Rattle.bc_types_rules.specs.Numbering.{try_fold}
 use Rattle.bc_data.specs.declared.run.Place.{Place}
 use Rattle.bc_data.specs.declared.program.Part.{Part}
-use Rattle.bc_rules.specs.Got.{Got, Gives, Fails, Mismatch, ask, ◌>>=◌, ◌>>◌}
+use Rattle.bc_types_rules.specs.Got.{Got, Gives, Fails, Mismatch, ask, ◌>>=◌, ◌>>◌}
 use Rattle.bc_data.specs.Typed.{TypedPart, TypedStatement, TypedStatements}
-use Rattle.bc_data.specs.ProgramView.{view_part, view_program_param}
-use Rattle.bc_rules.specs.Context as rules
-use Rattle.bc_rules.specs.Context.{Context, ValueType, ended, is_bool}
-use Rattle.bc_rules.specs.Statements as rules_statements
-use Rattle.bc_rules.specs.Statements.{Stated, AllStated, Parameter, state_all, ReadText, ReadValue, check_part}
-use Rattle.bc_rules.specs.Expressions.{infer, place_of}
-use Rattle.bc_rules.specs.Bodies as rules_bodies
+use Rattle.bc_data.specs.ProgramView.{view_part}
+use Rattle.bc_types_rules.specs.Context as rules
+use Rattle.bc_types_rules.specs.Context.{Context, ValueType, ended, is_bool}
+use Rattle.bc_types_rules.specs.Statements as rules_statements
+use Rattle.bc_types_rules.specs.Statements.{Stated, AllStated, Parameter, state_all, ReadText, ReadValue, check_part}
+use Rattle.bc_types_rules.specs.Expressions.{infer, place_of}
+use Rattle.bc_types_rules.specs.Bodies as rules_bodies
 use Rattle.bc_types_stat.specs.declared.methods.Formals.{Formals}
 use Rattle.bc_types_stat.specs.declared.params.Binds.{Binds}
 use Rattle.bc_types_stat.specs.declared.params.Params.{Params}
@@ -84,7 +84,7 @@ abbrev pub unbound : rules.Scope → rules_bodies.Binds
 unbound s = record { variables = []; scope = s }
 
 abbrev pub params_seen : Params → rules_bodies.Params
-params_seen ps = record { each = map view_program_param ps.each.items; scope = ps.scope }
+params_seen ps = record { each = ps.each.items; scope = ps.scope }
 
 -- formals in order, and the parameters of a task
 abbrev pub check_formals : rules.Names → Sequence Formal → Got rules_bodies.Formals

@@ -2,7 +2,7 @@
 
 ghost use Rattle.std.specs.Prelude.{◌≡◌};
 ghost use Rattle.bc_data.specs.View.{view_guard};
-ghost use Rattle.bc_rules.specs.Bodies.{check_guard};
+ghost use Rattle.bc_types_rules.specs.Bodies.{check_guard};
 ghost use Rattle.bc_data.specs.ProgramView.{view_flag_expr};
 ghost use Rattle.bc_names.specs.Answers.{Answers};
 ghost use Rattle.bc_types_expr.specs.Looks.{looks};

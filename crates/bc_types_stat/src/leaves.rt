@@ -3,7 +3,7 @@
 ghost use Rattle.std.specs.Prelude.{◌≡◌, false};
 ghost use Rattle.bc_data.specs.SourceTree.{Nothing};
 ghost use Rattle.bc_data.specs.View.{stat_views, view_stat};
-ghost use Rattle.bc_rules.specs.Statements as rules;
+ghost use Rattle.bc_types_rules.specs.Statements as rules;
 
 use bc_data::tree::StatText;
 

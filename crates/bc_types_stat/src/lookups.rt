@@ -1,7 +1,7 @@
 // What a name means where it is written.
 
 ghost use Rattle.std.specs.Prelude.{◌≡◌};
-ghost use Rattle.bc_rules.specs.Got.{find, Unknown};
+ghost use Rattle.bc_types_rules.specs.Got.{find, Unknown};
 ghost use Rattle.bc_names.specs.Answers.{Answers};
 ghost use Rattle.bc_types_expr.specs.Looks.{looks};
 

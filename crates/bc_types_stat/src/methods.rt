@@ -4,10 +4,9 @@ ghost use Rattle.std.specs.Prelude.{◌≡◌, ◌||◌, nat_eq, not, is_some};
 ghost use Rattle.std.specs.Cmp.Lexicographic.{pointwise};
 ghost use Rattle.bc_data.specs.SourceTree.{Empty, Nothing};
 ghost use Rattle.bc_data.specs.View.{onto, stat_views, view_method};
-ghost use Rattle.bc_rules.specs.Bodies.{check_formal, check_maker, check_method, result_at};
-ghost use Rattle.bc_rules.specs.Got.{ask, NoReturn};
-ghost use Rattle.bc_data.specs.ProgramView.{view_program_method};
-ghost use Rattle.bc_rules.specs.Statements as rules;
+ghost use Rattle.bc_types_rules.specs.Bodies.{check_formal, check_maker, check_method, result_at};
+ghost use Rattle.bc_types_rules.specs.Got.{ask, NoReturn};
+ghost use Rattle.bc_types_rules.specs.Statements as rules;
 ghost use Rattle.bc_names.specs.Answers.{Answers};
 ghost use Rattle.bc_types_expr.specs.Looks.{looks};
 ghost use Rattle.bc_types_stat.specs.Bodies.{check_formals, formals_seen};
@@ -83,7 +82,7 @@ fn ask_return(asked: Option<Shape>, body: &[StatText], at: Place) -> Result<(), 
 
 /// A method of a class: its result, its formals, its body. With a result its body surely leaves.
 pub fn method(alloc: Global, table: &Table, me: u32, m: &MethodText) -> Result<Method, TypeFault>
-    ensures { Answers result view_program_method (check_method (looks table.now) me (view_method m.now)) }
+    ensures { Answers result (λ m. m) (check_method (looks table.now) me (view_method m.now)) }
 {
     let asked = result_of(table, &m.result)?;
     let mut formals = formals_of(alloc, table, m.formals.as_slice())?;
@@ -96,13 +95,7 @@ pub fn method(alloc: Global, table: &Table, me: u32, m: &MethodText) -> Result<M
     ask_return(asked, m.body.as_slice(), m.name.at)?;
     let name = Bytes::from_slice(alloc, m.name.name.as_slice())?;
     let locals = formals.scope.slots();
-    Ok(Method {
-        name,
-        formals: formals.shapes,
-        locals,
-        result: asked,
-        body,
-    })
+    Ok(Method::new(name, formals.shapes, locals, asked, body))
 }
 
 /// A constructor has its class's name.
@@ -113,7 +106,7 @@ pub fn maker(
     class_name: &[u8],
     m: &MethodText,
 ) -> Result<Method, TypeFault>
-    ensures { Answers result view_program_method (check_maker (looks table.now) me class_name.now (view_method m.now)) }
+    ensures { Answers result (λ m. m) (check_maker (looks table.now) me class_name.now (view_method m.now)) }
 {
     ask_for(
         m.name.name.as_slice() == class_name,

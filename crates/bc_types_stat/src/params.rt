@@ -3,10 +3,10 @@
 ghost use Rattle.std.specs.Prelude.{◌≡◌, None, Some};
 ghost use Rattle.bc_data.specs.SourceTree.{Empty};
 ghost use Rattle.bc_data.specs.View.{onto, onto_by, view_param};
-ghost use Rattle.bc_rules.specs.Bodies as rules;
-ghost use Rattle.bc_rules.specs.Bodies.{check_bind, check_param};
-ghost use Rattle.bc_rules.specs.Context.{meaning_of, TagIs};
-ghost use Rattle.bc_rules.specs.Numbering.{try_fold};
+ghost use Rattle.bc_types_rules.specs.Bodies as rules;
+ghost use Rattle.bc_types_rules.specs.Bodies.{check_bind, check_param};
+ghost use Rattle.bc_types_rules.specs.Context.{meaning_of, TagIs};
+ghost use Rattle.bc_types_rules.specs.Numbering.{try_fold};
 ghost use Rattle.bc_names.specs.Answers.{Answers};
 ghost use Rattle.bc_types_expr.specs.Looks.{looks};
 ghost use Rattle.bc_types_stat.specs.Bodies.{binds_seen, check_params, params_seen, unbound};
@@ -118,11 +118,8 @@ fn add_param(
     let scope = scope.with_parameter(alloc, &p.name, class)?;
     let binds = binds_of(alloc, table, scope, p.binds.as_slice())?;
     let Binds { variables, scope } = binds;
-    each.push(Param {
-        class,
-        guard,
-        binds: variables,
-    })?;
+    let param = Param::new(class, guard, variables);
+    each.push(param)?;
     Ok(Params { each, scope })
 }
 

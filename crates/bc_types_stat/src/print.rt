@@ -3,10 +3,10 @@
 ghost use Rattle.std.specs.Prelude.{◌≡◌, [], map, OnOk};
 ghost use Rattle.bc_data.specs.SourceTree.{Empty, Print};
 ghost use Rattle.bc_data.specs.View.{onto_by, view_item};
-ghost use Rattle.bc_rules.specs.Got.{Gives};
-ghost use Rattle.bc_rules.specs.Numbering.{try_fold};
+ghost use Rattle.bc_types_rules.specs.Got.{Gives};
+ghost use Rattle.bc_types_rules.specs.Numbering.{try_fold};
 ghost use Rattle.bc_data.specs.ProgramView.{view_expr, view_part, view_program_stat};
-ghost use Rattle.bc_rules.specs.Statements.{check_part, ReadValue, state};
+ghost use Rattle.bc_types_rules.specs.Statements.{check_part, ReadValue, state};
 ghost use Rattle.bc_names.specs.Answers.{Answers};
 ghost use Rattle.bc_types_expr.specs.Contexts.{context_of};
 ghost use Rattle.bc_types_expr.specs.Expressions.{typed_seen};

@@ -3,7 +3,7 @@
 ghost use Rattle.std.specs.Prelude.{◌≡◌};
 ghost use Rattle.bc_data.specs.SourceTree.{Let, NewTag, Do, MakeDo, Return, ReturnValue, Assert, Nothing};
 ghost use Rattle.bc_data.specs.View.{stat_views, view, view_stat};
-ghost use Rattle.bc_rules.specs.Statements.{state};
+ghost use Rattle.bc_types_rules.specs.Statements.{state};
 ghost use Rattle.bc_data.specs.Typed as typed;
 ghost use Rattle.bc_data.specs.ProgramView.{program_stat_views, view_expr, view_program_stat};
 ghost use Rattle.bc_names.specs.Answers.{Answers};

@@ -2,8 +2,8 @@
 
 ghost use Rattle.std.specs.Prelude.{◌≡◌, ◌<◌, IfOk, OnOk, option_map};
 ghost use Rattle.std.specs.List.{filter_map};
-ghost use Rattle.bc_rules.specs.Bodies.{type_of_tag};
-ghost use Rattle.bc_rules.specs.Context.{meaning_of, task_scope, with_parameter};
+ghost use Rattle.bc_types_rules.specs.Bodies.{type_of_tag};
+ghost use Rattle.bc_types_rules.specs.Context.{meaning_of, task_scope, with_parameter};
 ghost use Rattle.bc_names.specs.Answers.{Answers};
 ghost use Rattle.bc_types_expr.specs.Scopes.{declare_variable, may_be_parameter, meaning_seen};
 
@@ -23,8 +23,8 @@ pub struct TaskScope {
 impl Model for TaskScope {
     ghost use Rattle.std.specs.Prelude.{◌≡◌, ◌≤◌};
     ghost use Rattle.std.specs.List.{filter_map};
-    ghost use Rattle.bc_rules.specs.Bodies.{type_of_tag};
-    ghost use Rattle.bc_rules.specs.Context as rules;
+    ghost use Rattle.bc_types_rules.specs.Bodies.{type_of_tag};
+    ghost use Rattle.bc_types_rules.specs.Context as rules;
 
     ghost Value = { rules.Scope };
 

@@ -3,8 +3,7 @@
 ghost use Rattle.std.specs.Prelude.{◌≡◌};
 ghost use Rattle.bc_data.specs.SourceTree.{Empty, Nothing};
 ghost use Rattle.bc_data.specs.View.{onto_by, stat_views, view_param};
-ghost use Rattle.bc_rules.specs.Bodies.{check_task};
-ghost use Rattle.bc_data.specs.ProgramView.{view_task};
+ghost use Rattle.bc_types_rules.specs.Bodies.{check_task};
 ghost use Rattle.bc_names.specs.Answers.{Answers};
 ghost use Rattle.bc_types_expr.specs.Looks.{looks};
 
@@ -19,7 +18,7 @@ use std::alloc::Global;
 
 /// A task: its parameters, then its body.
 pub fn task(alloc: Global, table: &Table, t: &TaskText) -> Result<Task, TypeFault>
-    ensures { Answers result view_task (check_task (looks table.now) t.now.at t.now.name (onto_by view_param t.now.params.items Empty) (stat_views t.now.body.items Nothing)) }
+    ensures { Answers result (λ t. t) (check_task (looks table.now) t.now.at t.now.name (onto_by view_param t.now.params.items Empty) (stat_views t.now.body.items Nothing)) }
 {
     let params = params_of(alloc, table, t.params.as_slice())?;
     let Params { each, scope } = params;
@@ -33,13 +32,5 @@ pub fn task(alloc: Global, table: &Table, t: &TaskText) -> Result<Task, TypeFaul
     let name = Bytes::from_slice(alloc, t.name.name.as_slice())?;
     let locals = scope.slots();
     let tags = scope.tags();
-    Ok(Task {
-        name,
-        at: t.at,
-        params: each,
-        variables,
-        locals,
-        tags,
-        body,
-    })
+    Ok(Task::new(name, t.at, each, variables, locals, tags, body))
 }

@@ -23,21 +23,27 @@ task t(A o in f with U v, A p in f with U v) {
 
 fn slots(program: &Program) -> Option<(u32, usize, Option<Shape>, u32)> {
     let class = program.classes().get(1)?;
-    let maker = class.maker.as_ref()?;
-    let m = class.methods.get(1)?;
-    Some((m.locals, m.formals.len(), m.result, maker.locals))
+    let maker = class.maker()?;
+    let m = class.methods().get(1)?;
+    Some((m.locals(), m.formals().len(), m.result(), maker.locals()))
 }
 
 fn variables(program: &Program) -> Option<(u32, u32, usize, usize, u32)> {
     let task = program.tasks().first()?;
-    let count = task.variables.len();
-    let first = task.variables.first()?;
-    Some((task.locals, task.tags, task.params.len(), count, *first))
+    let count = task.variables().len();
+    let first = task.variables().first()?;
+    Some((
+        task.locals(),
+        task.tags(),
+        task.params().len(),
+        count,
+        *first,
+    ))
 }
 
 fn called(program: &Program) -> Option<(u32, u32)> {
     let task = program.tasks().first()?;
-    match task.body.get(3)? {
+    match task.body().get(3)? {
         Stat::Drop(Expr::Call(_, _, class, method, _)) => Some((*class, *method)),
         _ => None,
     }
@@ -45,7 +51,7 @@ fn called(program: &Program) -> Option<(u32, u32)> {
 
 fn changes(program: &Program) -> Option<[Change; 2]> {
     let task = program.tasks().first()?;
-    match task.body.get(4)? {
+    match task.body().get(4)? {
         Stat::Exit(changes) => Some([*changes.first()?, *changes.get(1)?]),
         _ => None,
     }

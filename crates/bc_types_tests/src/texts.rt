@@ -3,8 +3,7 @@
 ghost use Rattle.std.specs.Prelude.{◌≤◌, length};
 
 use bc_data::program::Program;
-use bc_lex::tokens;
-use bc_parse::parse;
+use bc_read::reader::read_tree;
 use bc_types::{TypeFault, TypeKind, check};
 use std::alloc::Global;
 use std::process::Abort;
@@ -18,14 +17,10 @@ pub enum Told {
 }
 
 /// The program of a text that has a tree, or its first fault.
-#[tactic(auto, using(bc_parse::proofs::Lexed::ended, bc_accepted::proofs::Accepted::grammatical))]
 pub fn checked(alloc: Global, text: &str) -> Result<Result<Program, TypeFault>, Fail>
     requires { length text.now ≤ 1048576 }
 {
-    let Ok(found) = tokens(alloc, text.as_bytes()) else {
-        return Err("a text has tokens".into());
-    };
-    match parse(alloc, text.as_bytes(), &found) {
+    match read_tree(alloc, text.as_bytes()) {
         Ok(tree) => Ok(check(alloc, &tree)),
         Err(_) => Err("a text has a tree".into()),
     }

@@ -1,28 +1,44 @@
 // Command lines.
 
-ghost use Rattle.std.specs.Prelude.{◌≡◌, ◌<◌, [], ◌∷◌, length, slice_index_or, IfSome, IfNone};
-ghost use Rattle.std.specs.Bool.{OnTrue, OnFalse};
-ghost use Rattle.bc_words.specs.Commands.{IsCommand, IsNoCommand, IsNoSerial, AreNone};
+ghost use Rattle.std.specs.Prelude.{◌≡◌, [], ◌∷◌, IfSome, IfNone};
+ghost use Rattle.bc_words.specs.Commands.{IsCommand, IsNoCommand, IsNoSerial, AreNone, file_name};
 
 use bc_data::list::Bytes;
 use bc_data::text::read_decimal;
 
-/// A command without the name of its file: `serial` with its limit of commits, `show`, `check` or `code`.
+/// A command with its names and numbers, which borrows the names from the words.
 #[derive(Clone, Copy, Debug, PartialEq, Eq)]
-pub enum Command {
-    Serial(u32),
-    Show,
-    Check,
-    Code,
+pub enum Command<'a> {
+    /// The file is run on the input, up to so many commits.
+    Serial { file: &'a [u8], commits: u32 },
+    /// The file's canonical text.
+    Show { file: &'a [u8] },
+    /// The counts of what the file declares.
+    Check { file: &'a [u8] },
+    /// The listing of the file's code.
+    Code { file: &'a [u8] },
 }
 
-// The limit of commits, where the words are `serial FILE COMMITS` with COMMITS from 1 to 1,000,000.
-fn serial_commits(words: &[Bytes]) -> Option<u32>
-    ensures three { IfSome result (λ _. length words.now ≡ 3) }
-    ensures command { IfSome result (λ n. IsCommand words.now (Command.Serial n) (slice_index_or words.now 1 [])) }
+impl<'a> Command<'a> {
+    /// The name of the command's file.
+    pub fn file(&self) -> &'a [u8]
+        ensures { result.now ≡ file_name self.now }
+    {
+        match self {
+            Command::Serial { file, .. } => file,
+            Command::Show { file } => file,
+            Command::Check { file } => file,
+            Command::Code { file } => file,
+        }
+    }
+}
+
+// The command, where the words are `serial FILE COMMITS` with COMMITS from 1 to 1,000,000.
+fn serial(words: &[Bytes]) -> Option<Command<'_>>
+    ensures command { IfSome result (λ c. IsCommand words.now c) }
     ensures none { IfNone result (IsNoSerial words.now) }
 {
-    let [command, _, commits] = words else {
+    let [command, file, commits] = words else {
         return None;
     };
     if command.as_slice() != b"serial".as_slice() {
@@ -30,41 +46,46 @@ fn serial_commits(words: &[Bytes]) -> Option<u32>
     }
     let limit = read_decimal(commits.as_slice())?;
     if limit >= 1 && limit <= 1_000_000 {
-        Some(limit as u32)
+        Some(Command::Serial {
+            file: file.as_slice(),
+            commits: limit as u32,
+        })
     } else {
         None
     }
 }
 
-// Whether the words are a command of this name and a file.
-fn is_on_file(words: &[Bytes], name: &[u8]) -> bool
-    ensures two { OnTrue result (length words.now ≡ 2) }
-    ensures yes { OnTrue result (words.now ≡ name.now ∷ slice_index_or words.now 1 [] ∷ []) }
-    ensures no { OnFalse result (AreNone words.now name.now) }
+// The name of the file, where the words are this name and a file's.
+fn file_behind<'a>(words: &'a [Bytes], name: &[u8]) -> Option<&'a [u8]>
+    ensures yes { IfSome result (λ file. words.now ≡ name.now ∷ file.now ∷ []) }
+    ensures no { IfNone result (AreNone words.now name.now) }
 {
-    let [command, _] = words else {
-        return false;
+    let [command, file] = words else {
+        return None;
     };
-    command.as_slice() == name
+    if command.as_slice() == name {
+        Some(file.as_slice())
+    } else {
+        None
+    }
 }
 
-/// The command that the words are; its file is the second of them.
-pub fn command_of(words: &[Bytes]) -> Option<Command>
-    ensures file { IfSome result (λ _. 1 < length words.now) }
-    ensures command { IfSome result (λ c. IsCommand words.now c (slice_index_or words.now 1 [])) }
+/// The command that the words are.
+pub fn command_of(words: &[Bytes]) -> Option<Command<'_>>
+    ensures command { IfSome result (λ c. IsCommand words.now c) }
     ensures none { IfNone result (IsNoCommand words.now) }
 {
-    if let Some(commits) = serial_commits(words) {
-        return Some(Command::Serial(commits));
+    if let Some(command) = serial(words) {
+        return Some(command);
     }
-    if is_on_file(words, b"show") {
-        return Some(Command::Show);
+    if let Some(file) = file_behind(words, b"show") {
+        return Some(Command::Show { file });
     }
-    if is_on_file(words, b"check") {
-        return Some(Command::Check);
+    if let Some(file) = file_behind(words, b"check") {
+        return Some(Command::Check { file });
     }
-    if is_on_file(words, b"code") {
-        Some(Command::Code)
+    if let Some(file) = file_behind(words, b"code") {
+        Some(Command::Code { file })
     } else {
         None
     }

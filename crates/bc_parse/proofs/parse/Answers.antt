@@ -1,8 +1,8 @@
 use Rattle.std.proofs.Common.{ap, sym, ◌∙◌}
 use Rattle.bc_data.specs.SourceTree.{Empty}
 use Rattle.bc_data.specs.Seen.{seen}
-use Rattle.bc_grammar.specs.Machine.{Items, run}
-use Rattle.bc_grammar.proofs.Exact.{unexpected, too_deep, not_cut}
+use Rattle.bc_law_grammar.specs.Machine.{Items, run}
+use Rattle.bc_law_grammar.proofs.Exact.{unexpected, too_deep, not_cut}
 use Rattle.bc_parse.proofs.parse.Goals as goal
 
 pub returns-in-Err-Unexpected-clause-err : goal.returns-in-Err-Unexpected-clause-err

@@ -1,13 +1,4 @@
-use Rattle.std.proofs.Common.{◌≡◌, ◌≤◌, ◌-◌, length}
-use Rattle.bc_base.specs.Outside.{Consumes}
 use Rattle.bc_base.proofs.source.read_all.Given as goal
 
-abbrev pub invariant-loop-content : goal.invariant-loop-content
-invariant-loop-content g l = record {
-  within : length l.content ≤ l.limit;
-  taken : Consumes (g.S.Source.left l.initial.source) (g.S.Source.left l.source) l.content;
-  steady : g.S.Source.faults l.source ≡ g.S.Source.faults l.initial.source;
-}
-
-abbrev pub decreases-loop-content : goal.decreases-loop-content
-decreases-loop-content g l = l.limit - length l.content
+abbrev pub ghosts-read_uncounted : goal.ghosts-read_uncounted
+ghosts-read_uncounted g a = record { name = a.blank.name; parts = a.blank.parts }

@@ -2,7 +2,7 @@ use Rattle.std.proofs.Common.{◌||◌, not, List, ap, ◌∙◌, get_or}
 use Rattle.bc_data.specs.declared.run.Invocation.{Invocation}
 use Rattle.bc_mean.specs.Enabled.{is_enabled}
 use Rattle.bc_mean.specs.Serial.{listed}
-use Rattle.bc_events.specs.Moves.{names_any}
+use Rattle.bc_book_events.specs.Reshaped.{names_any}
 use Rattle.bc_book.proofs.Readying.{none_left}
 use Rattle.bc_book.proofs.commit.renew.Goals as goal
 

@@ -1,8 +1,8 @@
 use Rattle.std.proofs.Common.{◌≡◌, drop}
 use Rattle.bc_code.specs.Given.{given_look}
 use Rattle.bc_step.specs.Area.{given_of}
-use Rattle.bc_events.specs.Events.{first_moved}
-use Rattle.bc_runs.specs.Areas.{moved_in}
+use Rattle.bc_book_events.specs.Events.{first_moved}
+use Rattle.bc_law_core.specs.Areas.{moved_in}
 use Rattle.bc_book.proofs.moved.first_moved.Given as goal
 
 abbrev pub invariant-loop-id : goal.invariant-loop-id

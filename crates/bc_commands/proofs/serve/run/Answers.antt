@@ -1,6 +1,6 @@
 use Rattle.std.proofs.Common.{subst}
-use Rattle.bc_events.specs.Book.{BookState}
-use Rattle.bc_events.specs.SoundLaws.{book_at_start}
+use Rattle.bc_book_events.specs.Book.{BookState}
+use Rattle.bc_book_events.specs.SoundLaws.{book_at_start}
 use Rattle.bc_serial.specs.Run.{Finishes, course_after, stop_of}
 use Rattle.bc_commands.proofs.serve.run.Goals as goal
 

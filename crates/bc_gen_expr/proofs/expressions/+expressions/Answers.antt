@@ -1,7 +1,7 @@
-use Rattle.std.proofs.Common.{◌≡◌, ◌∙◌, ◌<◌, ap, sym, subst, map, length, arith, OnOk}
+use Rattle.std.proofs.Common.{◌≡◌, ◌∙◌, ◌<◌, ap, sym, subst, length, arith, OnOk}
 use Rattle.std.proofs.lemmas.Result.{on_ok_weaker}
 use Rattle.bc_data.specs.Typed.{NoArg, Two}
-use Rattle.bc_data.specs.ProgramView.{expr_views, view_class, view_expr}
+use Rattle.bc_data.specs.ProgramView.{expr_views, view_expr}
 use Rattle.bc_code.specs.Instructions.{nowhere}
 use Rattle.bc_code.specs.Translation.{count, most_instructions}
 use Rattle.bc_gen_expr.specs.Written.{written}
@@ -13,12 +13,12 @@ use Rattle.bc_gen_expr.proofs.expressions.+expressions.Goals as goal
 pub arguments-loop-e-preserved : goal.arguments-loop-e-preserved
 arguments-loop-e-preserved t c =
     let within : c.loop-e.e-index < length c.args.es.now = omega arith in
-    one_more (map view_class c.args.classes.now) c.args.es.now c.loop-e.e-index c.e-item.result within c.e-item.is c.loop-e.invariant c.in_ok-expression.ensures
+    one_more c.args.classes.now c.args.es.now c.loop-e.e-index c.e-item.result within c.e-item.is c.loop-e.invariant c.in_ok-expression.ensures
 
 pub arguments-overflow_cast-result : goal.arguments-overflow_cast-result
 unfolding most_instructions
 arguments-overflow_cast-result t c =
-    let few = few_arguments (map view_class c.args.classes.now) c.args.es.now c.loop-e.e-index (omega arith) c.loop-e.invariant in
+    let few = few_arguments c.args.classes.now c.args.es.now c.loop-e.e-index (omega arith) c.loop-e.invariant in
     omega arith
 
 pub arguments-returns-clause-counted : goal.arguments-returns-clause-counted
@@ -26,42 +26,42 @@ arguments-returns-clause-counted t c = sym (count_views c.args.es.now)
 
 pub expression-returns-in_ok-expression-in-Neg : goal.expression-returns-in_ok-expression-in-Neg
 expression-returns-in_ok-expression-in-Neg t c =
-    let k = map view_class c.args.classes.now in
+    let k = c.args.classes.now in
     let a = subst (λ x. Emits k (view_expr x) c.args.out.now c.expression.new.out) c.deref.ensures c.in_ok-expression-in-Neg.ensures in
     subst (λ x. OnOk c.put-in-Neg.result (Emits k (view_expr x) c.args.out.now c.put-in-Neg.new.out)) (sym c.in-Neg.is)
     (on_ok_weaker c.put-in-Neg.result (one_operand k (view_expr c.in-Neg.operand.value) a) c.put-in-Neg.ensures)
 
 pub expression-returns-in_ok-expression-in-Not : goal.expression-returns-in_ok-expression-in-Not
 expression-returns-in_ok-expression-in-Not t c =
-    let k = map view_class c.args.classes.now in
+    let k = c.args.classes.now in
     let a = subst (λ x. Emits k (view_expr x) c.args.out.now c.expression-in-Not.new.out) c.deref-in-Not.ensures c.in_ok-expression-in-Not.ensures in
     subst (λ x. OnOk c.put-in-Not.result (Emits k (view_expr x) c.args.out.now c.put-in-Not.new.out)) (sym c.in-Not.is)
     (on_ok_weaker c.put-in-Not.result (one_operand k (view_expr c.in-Not.operand.value) a) c.put-in-Not.ensures)
 
 pub expression-returns-in_ok-expression-in-Field : goal.expression-returns-in_ok-expression-in-Field
 expression-returns-in_ok-expression-in-Field t c =
-    let k = map view_class c.args.classes.now in
+    let k = c.args.classes.now in
     let a = subst (λ x. Emits k (view_expr x) c.args.out.now c.expression-in-Field.new.out) c.deref-in-Field.ensures c.in_ok-expression-in-Field.ensures in
     subst (λ x. OnOk c.put-in-Field.result (Emits k (view_expr x) c.args.out.now c.put-in-Field.new.out)) (sym c.in-Field.is)
     (on_ok_weaker c.put-in-Field.result (one_operand k (view_expr c.in-Field.object.value) a) c.put-in-Field.ensures)
 
 pub expression-returns-in_ok-expression-in-Length : goal.expression-returns-in_ok-expression-in-Length
 expression-returns-in_ok-expression-in-Length t c =
-    let k = map view_class c.args.classes.now in
+    let k = c.args.classes.now in
     let a = subst (λ x. Emits k (view_expr x) c.args.out.now c.expression-in-Length.new.out) c.deref-in-Length.ensures c.in_ok-expression-in-Length.ensures in
     subst (λ x. OnOk c.put-in-Length.result (Emits k (view_expr x) c.args.out.now c.put-in-Length.new.out)) (sym c.in-Length.is)
     (on_ok_weaker c.put-in-Length.result (one_operand k (view_expr c.in-Length.array.value) a) c.put-in-Length.ensures)
 
 pub expression-returns-in_ok-expression-in-Array : goal.expression-returns-in_ok-expression-in-Array
 expression-returns-in_ok-expression-in-Array t c =
-    let k = map view_class c.args.classes.now in
+    let k = c.args.classes.now in
     let a = subst (λ x. Emits k (view_expr x) c.args.out.now c.expression-in-Array.new.out) c.deref-in-Array.ensures c.in_ok-expression-in-Array.ensures in
     subst (λ x. OnOk c.put-in-Array.result (Emits k (view_expr x) c.args.out.now c.put-in-Array.new.out)) (sym c.in-Array.is)
     (on_ok_weaker c.put-in-Array.result (one_operand k (view_expr c.in-Array.size.value) a) c.put-in-Array.ensures)
 
 pub expression-returns-in_ok-expression-in-Elem-2 : goal.expression-returns-in_ok-expression-in-Elem-2
 expression-returns-in_ok-expression-in-Elem-2 t c =
-    let k = map view_class c.args.classes.now in
+    let k = c.args.classes.now in
     let a = subst (λ x. Emits k (view_expr x) c.args.out.now c.expression-in-Elem.new.out) c.deref-in-Elem.ensures c.in_ok-expression-in-Elem.ensures in
     let b = subst (λ x. Emits k (view_expr x) c.expression-in-Elem.new.out c.expression-in-Elem-2.new.out) c.deref-in-Elem-2.ensures c.in_ok-expression-in-Elem-2.ensures in
     subst (λ x. OnOk c.put-in-Elem.result (Emits k (view_expr x) c.args.out.now c.put-in-Elem.new.out)) (sym c.in-Elem.is)
@@ -69,7 +69,7 @@ expression-returns-in_ok-expression-in-Elem-2 t c =
 
 pub expression-returns-in_ok-expression-in-Calculates-2 : goal.expression-returns-in_ok-expression-in-Calculates-2
 expression-returns-in_ok-expression-in-Calculates-2 t c =
-    let k = map view_class c.args.classes.now in
+    let k = c.args.classes.now in
     let a = subst (λ x. Emits k (view_expr x) c.args.out.now c.expression-in-Calculates.new.out) c.deref-in-Calculates.ensures c.in_ok-expression-in-Calculates.ensures in
     let b = subst (λ x. Emits k (view_expr x) c.expression-in-Calculates.new.out c.expression-in-Calculates-2.new.out) c.deref-in-Calculates-2.ensures c.in_ok-expression-in-Calculates-2.ensures in
     subst (λ x. OnOk c.put-in-Calculates.result (Emits k (view_expr x) c.args.out.now c.put-in-Calculates.new.out)) (sym c.in-Two.is)
@@ -77,7 +77,7 @@ expression-returns-in_ok-expression-in-Calculates-2 t c =
 
 pub expression-returns-in_ok-put-in-Decides-3 : goal.expression-returns-in_ok-put-in-Decides-3
 expression-returns-in_ok-put-in-Decides-3 t c =
-    let k = map view_class c.args.classes.now in
+    let k = c.args.classes.now in
     let x = view_expr c.in-Two.left.value in
     let y = view_expr c.in-Two.right.value in
     let value = c.in-Decides.value in
@@ -91,7 +91,7 @@ expression-returns-in_ok-put-in-Decides-3 t c =
 
 pub expression-returns-in_ok-count-in-Call : goal.expression-returns-in_ok-count-in-Call
 expression-returns-in_ok-count-in-Call t c =
-    let k = map view_class c.args.classes.now in
+    let k = c.args.classes.now in
     let call = c.in-Call in
     let x = view_expr call.object.value in
     let args = expr_views call.args.items NoArg in
@@ -106,7 +106,7 @@ expression-returns-in_ok-count-in-Call t c =
 
 pub expression-returns-in_ok-tweak_all-in-Make : goal.expression-returns-in_ok-tweak_all-in-Make
 expression-returns-in_ok-tweak_all-in-Make t c =
-    let k = map view_class c.args.classes.now in
+    let k = c.args.classes.now in
     let make = c.in-Make in
     let args = expr_views make.args.items NoArg in
     let n = c.in_ok-count-in-Make.count in

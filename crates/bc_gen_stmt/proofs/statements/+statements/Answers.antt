@@ -1,7 +1,7 @@
-use Rattle.std.proofs.Common.{◌≡◌, ◌<◌, ◌+◌, ◌++◌, ◌∷◌, [], length, map, take, sym, ◌∙◌, ap, subst, arith}
+use Rattle.std.proofs.Common.{◌≡◌, ◌<◌, ◌+◌, ◌++◌, ◌∷◌, [], length, take, sym, ◌∙◌, ap, subst, arith}
 use Rattle.std.proofs.lemmas.List.{take_more}
 use Rattle.std.proofs.lemmas.Result.{on_ok_weaker}
-use Rattle.bc_data.specs.ProgramView.{program_stat_views, view_class, view_expr, view_program_stat}
+use Rattle.bc_data.specs.ProgramView.{program_stat_views, view_expr, view_program_stat}
 use Rattle.bc_data.specs.Typed.{Nothing}
 use Rattle.bc_gen_stmt.proofs.Laying.{PutsChanges, PutsStatement, PutsStatements, field_emitted, elem_emitted, if_emitted, while_emitted, exit_emitted, one_statement}
 use Rattle.bc_gen_stmt.proofs.Rows.{seen_block, seen_if, seen_while}
@@ -9,7 +9,7 @@ use Rattle.bc_gen_stmt.proofs.statements.+statements.Goals as goal
 
 pub statement-returns-in_ok-expression-in-SetField : goal.statement-returns-in_ok-expression-in-SetField
 statement-returns-in_ok-expression-in-SetField t c =
-    let K = map view_class c.args.classes.now in
+    let K = c.args.classes.now in
     let s = c.in-SetField in
     on_ok_weaker
     c.value_then-in-SetField.result
@@ -18,7 +18,7 @@ statement-returns-in_ok-expression-in-SetField t c =
 
 pub statement-returns-in_ok-expression-in-SetElem-2 : goal.statement-returns-in_ok-expression-in-SetElem-2
 statement-returns-in_ok-expression-in-SetElem-2 t c =
-    let K = map view_class c.args.classes.now in
+    let K = c.args.classes.now in
     let s = c.in-SetElem in
     on_ok_weaker
     c.value_then-in-SetElem.result
@@ -27,7 +27,7 @@ statement-returns-in_ok-expression-in-SetElem-2 t c =
 
 pub statement-returns-in_ok-statements-in-If-2 : goal.statement-returns-in_ok-statements-in-If-2
 statement-returns-in_ok-statements-in-If-2 t c =
-    let K = map view_class c.args.classes.now in
+    let K = c.args.classes.now in
     let s = c.in-If in
     let seen = ap view_program_stat s.is ∙ seen_if s.test s.body s.other in
     let body = subst (λ l. PutsStatements K (program_stat_views l Nothing) c.put-in-If.new.out c.statements.new.out) c.deref.ensures.value c.in_ok-statements-in-If.ensures in
@@ -37,7 +37,7 @@ statement-returns-in_ok-statements-in-If-2 t c =
 
 pub statement-returns-in_ok-put-in-While-3 : goal.statement-returns-in_ok-put-in-While-3
 statement-returns-in_ok-put-in-While-3 t c =
-    let K = map view_class c.args.classes.now in
+    let K = c.args.classes.now in
     let s = c.in-While in
     let seen = ap view_program_stat s.is ∙ seen_while s.at s.test s.body in
     let body = subst (λ l. PutsStatements K (program_stat_views l Nothing) c.put-in-While-2.new.out c.statements-in-While.new.out) c.deref-in-While.ensures.value c.in_ok-statements-in-While.ensures in
@@ -46,7 +46,7 @@ statement-returns-in_ok-put-in-While-3 t c =
 
 pub statement-returns-in_ok-put_changes-in-Exit : goal.statement-returns-in_ok-put_changes-in-Exit
 statement-returns-in_ok-put_changes-in-Exit t c =
-    let K = map view_class c.args.classes.now in
+    let K = c.args.classes.now in
     let xs = c.in-Exit.changes.items in
     let changes = subst (λ l. PutsChanges l c.args.out.now c.put_changes.new.out) c.deref-in-Exit.ensures.value c.in_ok-put_changes-in-Exit.ensures in
     on_ok_weaker
@@ -56,7 +56,7 @@ statement-returns-in_ok-put_changes-in-Exit t c =
 
 pub statement-returns-in-Block : goal.statement-returns-in-Block
 statement-returns-in-Block t c =
-    let K = map view_class c.args.classes.now in
+    let K = c.args.classes.now in
     let seen = ap view_program_stat c.in-Block.is ∙ seen_block c.in-Block.body in
     on_ok_weaker
     c.statements-in-Block.result
@@ -65,7 +65,7 @@ statement-returns-in-Block t c =
 
 pub statements-loop-s-preserved : goal.statements-loop-s-preserved
 statements-loop-s-preserved t c =
-    let K = map view_class c.args.classes.now in
+    let K = c.args.classes.now in
     let ss = c.args.body.now in
     let i = c.loop-s.s-index in
     let within : i < length ss = omega arith in

@@ -1,12 +1,12 @@
 use Rattle.std.proofs.Common.{◌≡◌, ◌<◌, ◌+◌, ◌++◌, ◌∷◌, [], length, map, take, sym, ◌∙◌, ap, subst, arith}
 use Rattle.std.proofs.lemmas.List.{map_more}
-use Rattle.bc_data.specs.ProgramView.{view_class, view_part}
+use Rattle.bc_data.specs.ProgramView.{view_part}
 use Rattle.bc_gen_stmt.proofs.Laying.{PutsParts, one_part}
 use Rattle.bc_gen_stmt.proofs.statements.print.Goals as goal
 
 pub loop-part-preserved : goal.loop-part-preserved
 loop-part-preserved c =
-    let K = map view_class c.args.classes.now in
+    let K = c.args.classes.now in
     let parts = c.args.parts.now in
     let i = c.loop-part.part-index in
     let within : i < length parts = omega arith in

@@ -1,13 +1,13 @@
-use Rattle.std.proofs.Common.{map, refl, subst}
-use Rattle.bc_data.specs.ProgramView.{program_stat_views, view_class, view_task}
-use Rattle.bc_data.specs.Typed.{Nothing}
+use Rattle.std.proofs.Common.{subst}
 use Rattle.bc_code.specs.declared.code.Unit.{Unit as CodeUnit}
 use Rattle.bc_gen_stmt.proofs.Laying.{PutsStatements, task_laid}
 use Rattle.bc_gen_stmt.proofs.units.task_unit.Goals as goal
 
 pub returns : goal.returns
 returns c =
-    let K = map view_class c.args.classes.now in
-    let start : CodeUnit = record { code = c.new.result; places = c.new-2.result; locals = c.args.task.now.locals; tags = c.args.task.now.tags } in
-    let body = subst (λ l. PutsStatements K (program_stat_views l Nothing) start c.statements.new.out) c.deref.ensures.value c.in_ok-statements.ensures in
-    task_laid K (view_task c.args.task.now) start _ _ c.new.ensures refl refl body c.in_ok-put.ensures
+    let K = c.args.classes.now in
+    let start : CodeUnit =
+    record { code = c.new.result; places = c.new-2.result; locals = c.locals.result; tags = c.tags.result } in
+    let body =
+    subst (λ ss. PutsStatements K ss start c.statements.new.out) c.body.ensures c.in_ok-statements.ensures in
+    task_laid K c.args.task.now start _ _ c.new.ensures c.locals.ensures c.tags.ensures body c.in_ok-put.ensures

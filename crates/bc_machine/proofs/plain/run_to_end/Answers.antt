@@ -3,7 +3,7 @@ use Rattle.std.specs.Prelude.{slice_index_or}
 use Rattle.std.proofs.lemmas.Option.{slice_get_read}
 use Rattle.bc_data.specs.declared.run.Body.{Body}
 use Rattle.bc_code.specs.Given.{ids_of}
-use Rattle.bc_local.specs.Growth.{has}
+use Rattle.bc_law_locality.specs.Growth.{has}
 use Rattle.bc_step.specs.Area.{AgreesWith, AreaParts, given_of}
 use Rattle.bc_machine.specs.Running.{Tells}
 use Rattle.bc_machine.proofs.Known.{held_kept, lacking, needs_still, one_more_given, same_invocation}

@@ -1,5 +1,5 @@
 use Rattle.std.proofs.Common.{◌≡◌, ◌≤◌, length}
-use Rattle.bc_data.specs.Program.{Parts}
+use Rattle.bc_data.specs.Typed.{TypedProgram}
 use Rattle.bc_machine.specs.Running.{IsRunning}
 use Rattle.bc_machine.proofs.plain.run_to_end.Given as goal
 
@@ -7,7 +7,7 @@ use Rattle.bc_machine.proofs.plain.run_to_end.Given as goal
 abbrev pub invariant-loop : goal.invariant-loop
 invariant-loop l = record {
   invocation : l.machine.area.invocation ≡ l.fn.machine.area.invocation;
-  running : (P : Parts) → IsRunning P l.store l.code l.fn.machine → IsRunning P l.store l.code l.machine;
+  running : (P : TypedProgram) → IsRunning P l.store l.code l.fn.machine → IsRunning P l.store l.code l.machine;
   given : l.counter ≤ length l.machine.area.held;
   few : l.counter ≤ length l.store.bodies;
 }

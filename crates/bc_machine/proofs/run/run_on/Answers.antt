@@ -1,4 +1,5 @@
 use Rattle.std.proofs.Common.{◌≡◌, ℕ, ◌+◌, ◌≤◌, subst, arith}
+use Rattle.bc_code.specs.Instructions.{start}
 use Rattle.bc_step.specs.Area.{reads_of}
 use Rattle.bc_step.specs.declared.state.Did.TheVariants as answer
 use Rattle.bc_machine.specs.Course.{Reaches}
@@ -7,7 +8,8 @@ use Rattle.bc_machine.proofs.run.run_on.Goals as goal
 
 pub step-requires : goal.step-requires
 step-requires c =
-    may_step c.args.code.now c.args.area.now c.loop.state c.loop.area c.loop.invariant.kept c.requires.from (c.requires.steps + c.loop.counter) c.requires.rules (c.loop.invariant.reached c.requires.from c.requires.steps c.requires.here)
+    may_step c.args.code.now c.args.area.now c.loop.state c.loop.area c.loop.invariant.kept (c.requires.steps + c.loop.counter) c.requires.generated c.requires.rules
+    (c.loop.invariant.reached (start c.args.code.now c.args.area.now.invocation) c.requires.steps c.requires.here)
 
 pub returns-in_err-step-clause-err : goal.returns-in_err-step-clause-err
 returns-in_err-step-clause-err c =
@@ -47,4 +49,6 @@ loop-preserved c = record {
 pub unreachable-requires : goal.unreachable-requires
 unreachable-requires c =
     let le : c.requires.last ≤ c.requires.steps + c.loop.counter = omega (arith, c.requires.bound) in
-    not_past (reads_of c.args.area.now) c.args.code.now c.requires.from c.requires.last (c.requires.steps + c.loop.counter) c.loop.state c.loop.area c.requires.over le (c.loop.invariant.reached c.requires.from c.requires.steps c.requires.here)
+    let from = start c.args.code.now c.args.area.now.invocation in
+    not_past (reads_of c.args.area.now) c.args.code.now from c.requires.last (c.requires.steps + c.loop.counter) c.loop.state c.loop.area c.requires.over le
+    (c.loop.invariant.reached from c.requires.steps c.requires.here)

@@ -9,8 +9,8 @@ pub returns-then-left-eq0 : goal.returns-then-left-eq0
 returns-then-left-eq0 t c =
     let list = enabled_on c.args.task.now c.args.store.now c.args.number in
     let behind = listed_behind (enabled_with c.args.task.now c.args.store.now c.args.number c.args.front) (length c.args.store.now.tags) in
-    let variables : c.len-variables.result ≡ length c.args.task.now.variables.items = omega arith in
-    let e : behind c.none.result c.len-variables.result ≡ listed_behind list (length c.args.store.now.bodies) c.args.front c.args.left =
+    let variables : length c.variables-variables.result.now ≡ length c.args.task.now.variables = ap length c.variables-variables.ensures in
+    let e : behind c.none.result (length c.variables-variables.result.now) ≡ listed_behind list (length c.args.store.now.bodies) c.args.front c.args.left =
     ap₂ behind c.none.ensures variables
     ∙ sym (ap (listed_behind list (length c.args.store.now.bodies) c.args.front) c.if-left-eq0.true ∙ behind_none list (length c.args.store.now.bodies) c.args.front)
     in

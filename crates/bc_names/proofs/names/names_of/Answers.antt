@@ -1,7 +1,7 @@
 use Rattle.std.proofs.Common.{◌<◌, length, arith}
 use Rattle.std.proofs.lemmas.Result.{err_from_is_err_and}
 use Rattle.bc_data.specs.View.{view_text_item}
-use Rattle.bc_rules.specs.Numbering.{declare_item, startup_spaces}
+use Rattle.bc_types_rules.specs.Numbering.{declare_item, startup_spaces}
 use Rattle.bc_names.proofs.Walk.{walk_on, walk_stops}
 use Rattle.bc_names.proofs.names.names_of.Goals as goal
 

@@ -1,6 +1,6 @@
 use Rattle.std.proofs.Common.{◌≡◌, ◌≤◌, ◌&&◌, not, ◌++◌, take}
-use Rattle.bc_sets.specs.declared.tag_index.Binding.{Binding}
-use Rattle.bc_sets.specs.Bindings.{is_bound}
+use Rattle.bc_params_sets.specs.declared.tag_index.Binding.{Binding}
+use Rattle.bc_params_sets.specs.Bindings.{is_bound}
 use Rattle.bc_params.specs.Look.{is_own}
 use Rattle.bc_params.proofs.bindings.unbind.Given as goal
 

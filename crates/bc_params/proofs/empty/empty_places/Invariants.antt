@@ -1,5 +1,5 @@
 use Rattle.std.proofs.Common.{take}
-use Rattle.bc_sets.specs.Kept.{ArePlaces}
+use Rattle.bc_params_sets.specs.Kept.{ArePlaces}
 use Rattle.bc_params.specs.Look.{nobody}
 use Rattle.bc_params.proofs.empty.empty_places.Given as goal
 

@@ -1,5 +1,5 @@
 use Rattle.std.proofs.Common.{◌<◌, cond, length, arith}
-use Rattle.bc_sets.specs.declared.place.Place.{Place}
+use Rattle.bc_params_sets.specs.declared.place.Place.{Place}
 use Rattle.bc_params.specs.Places.{IsUpdated, is_of}
 use Rattle.bc_params.proofs.Elements.{front_more, front_read, spent_more}
 use Rattle.bc_params.proofs.places.update_places.Goals as goal

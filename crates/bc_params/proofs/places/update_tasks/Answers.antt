@@ -1,5 +1,5 @@
 use Rattle.std.proofs.Common.{◌<◌, length, arith, refl, count_by}
-use Rattle.bc_sets.specs.declared.place.TaskSets.{TaskSets}
+use Rattle.bc_params_sets.specs.declared.place.TaskSets.{TaskSets}
 use Rattle.bc_params.specs.Places.{AtEachPlace, IsUpdated, is_of}
 use Rattle.bc_params.proofs.Elements.{front_more, front_read, spent_more}
 use Rattle.bc_params.proofs.places.update_tasks.Goals as goal

@@ -1,5 +1,5 @@
 use Rattle.std.proofs.Common.{ℕ, ◌<◌, ◌≤◌, get_or}
-use Rattle.bc_sets.specs.declared.place.Place.{Place}
+use Rattle.bc_params_sets.specs.declared.place.Place.{Place}
 use Rattle.bc_params.specs.Places.{Front, IsRoomier}
 use Rattle.bc_params.proofs.room.reserve_places.Given as goal
 

@@ -1,5 +1,5 @@
 use Rattle.std.proofs.Common.{ℕ, ◌<◌, get_or}
-use Rattle.bc_sets.specs.declared.place.TaskSets.{TaskSets}
+use Rattle.bc_params_sets.specs.declared.place.TaskSets.{TaskSets}
 use Rattle.bc_params.specs.Places.{Front, AtEachPlace, IsRoomier, PlacesHaveRoom}
 use Rattle.bc_params.proofs.room.reserve_tasks.Given as goal
 

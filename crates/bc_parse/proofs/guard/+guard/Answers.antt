@@ -4,7 +4,7 @@ use Rattle.bc_data.specs.Seen.{seen}
 use Rattle.bc_data.specs.SourceTree.{FlagTwo, guard_height}
 use Rattle.bc_data.specs.View.{view_guard}
 use Rattle.bc_data.specs.Grammar.{guard_looseness}
-use Rattle.bc_grammar.specs.Machine.{AfterFlag, InFlagTwo, FlagRoom, levels, run}
+use Rattle.bc_law_grammar.specs.Machine.{AfterFlag, InFlagTwo, FlagRoom, levels, run}
 use Rattle.bc_parse_expr.specs.Contract.{Stops, first_kind}
 use Rattle.bc_parse.specs.Guards.{flag_reach_of, join_of}
 use Rattle.bc_parse.proofs.Flags.{push_seen, end_seen, guard_low}

@@ -1,7 +1,7 @@
 use Rattle.std.proofs.Common.{◌≡◌, ◌+◌, ◌≤◌, ◌<◌, length, ◌-◌, ◌*◌}
 use Rattle.bc_data.specs.Seen.{seen}
 use Rattle.bc_data.specs.View.{view_guard}
-use Rattle.bc_grammar.specs.Machine.{Stack, WantFlag, AfterFlag, levels, FlagRoom, run}
+use Rattle.bc_law_grammar.specs.Machine.{Stack, WantFlag, AfterFlag, levels, FlagRoom, run}
 use Rattle.bc_parse.specs.Guards.{IsGuardMeasured}
 use Rattle.bc_parse.proofs.guard.+guard.Given as goal
 

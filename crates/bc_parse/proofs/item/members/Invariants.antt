@@ -2,7 +2,7 @@ use Rattle.std.proofs.Common.{◌≡◌, ◌≤◌, length, false}
 use Rattle.bc_data.specs.Seen.{seen}
 use Rattle.bc_data.specs.SourceTree.{Sequence, Empty, Member}
 use Rattle.bc_data.specs.View.{view_member, onto_by}
-use Rattle.bc_grammar.specs.Machine.{State, Members, run}
+use Rattle.bc_law_grammar.specs.Machine.{State, Members, run}
 use Rattle.bc_parse.proofs.item.members.Given as goal
 
 abbrev pub invariant-loop-close : goal.invariant-loop-close

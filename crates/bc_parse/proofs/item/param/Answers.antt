@@ -7,7 +7,7 @@ use Rattle.bc_data.specs.View.{view_guard}
 use Rattle.bc_data.specs.declared.token.Word.TheVariants as word
 use Rattle.bc_data.specs.declared.tree.Bind.{Bind}
 use Rattle.bc_data.specs.declared.tree.Named.{Named}
-use Rattle.bc_grammar.specs.Machine.{State, Never, OnWord, Guarded, WantFlag, Binding, Parameters, param_row, run}
+use Rattle.bc_law_grammar.specs.Machine.{State, Never, OnWord, Guarded, WantFlag, Binding, Parameters, param_row, run}
 use Rattle.bc_parse_expr.specs.Contract.{Stops}
 use Rattle.bc_parse.specs.Guards.{flag_reach_of}
 use Rattle.bc_parse.proofs.Flags.{guarded_end}

@@ -2,7 +2,7 @@ use Rattle.std.proofs.Common.{◌≡◌, ◌≤◌, length, false}
 use Rattle.bc_data.specs.Seen.{seen}
 use Rattle.bc_data.specs.SourceTree.{Sequence, Empty, Param}
 use Rattle.bc_data.specs.View.{view_param, onto_by}
-use Rattle.bc_grammar.specs.Machine.{State, Parameters, run}
+use Rattle.bc_law_grammar.specs.Machine.{State, Parameters, run}
 use Rattle.bc_parse.proofs.item.params.Given as goal
 
 abbrev pub invariant-loop-read : goal.invariant-loop-read

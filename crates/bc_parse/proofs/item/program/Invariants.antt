@@ -2,7 +2,7 @@ use Rattle.std.proofs.Common.{◌≡◌, length}
 use Rattle.bc_data.specs.Seen.{seen}
 use Rattle.bc_data.specs.SourceTree.{Empty}
 use Rattle.bc_data.specs.View.{view_text_item, onto_by}
-use Rattle.bc_grammar.specs.Machine.{Items, run}
+use Rattle.bc_law_grammar.specs.Machine.{Items, run}
 use Rattle.bc_parse.proofs.item.program.Given as goal
 
 abbrev pub invariant-loop-list : goal.invariant-loop-list

@@ -3,7 +3,7 @@ use Rattle.bc_data.specs.Seen.{seen}
 use Rattle.bc_data.specs.SourceTree.{Sequence, Empty}
 use Rattle.bc_data.specs.View.{onto}
 use Rattle.bc_data.specs.declared.tree.ActionText.{ActionText}
-use Rattle.bc_grammar.specs.Machine.{State, Tweaking, run}
+use Rattle.bc_law_grammar.specs.Machine.{State, Tweaking, run}
 use Rattle.bc_parse_expr.proofs.actions.tweaks.Given as goal
 
 abbrev pub invariant-loop-read : goal.invariant-loop-read

@@ -4,8 +4,8 @@ use Rattle.bc_data.specs.Seen.{seen}
 use Rattle.bc_data.specs.SourceTree.{Two, height}
 use Rattle.bc_data.specs.View.{view}
 use Rattle.bc_data.specs.Grammar.{looseness}
-use Rattle.bc_grammar.specs.Machine.{After, InTwo, Room, levels, run}
-use Rattle.bc_grammar.proofs.Steps.{looseness_low}
+use Rattle.bc_law_grammar.specs.Machine.{After, InTwo, Room, levels, run}
+use Rattle.bc_law_grammar.proofs.Steps.{looseness_low}
 use Rattle.bc_parse_expr.specs.Contract.{Stops, first_kind, reach_of}
 use Rattle.bc_parse_expr.proofs.Expressions.{push_seen, end_seen}
 use Rattle.bc_parse_expr.proofs.expression.+expr.Goals as goal

@@ -2,7 +2,7 @@ use Rattle.std.proofs.Common.{◌≡◌, ◌+◌, ◌≤◌, ◌<◌, length, �
 use Rattle.bc_data.specs.Seen.{seen}
 use Rattle.bc_data.specs.SourceTree.{Expressions, NoArg, tallest}
 use Rattle.bc_data.specs.View.{view, views}
-use Rattle.bc_grammar.specs.Machine.{State, Stack, Want, Got, After, InArgs, levels, args_row, Room, NoCall, Unbracketed, run, kind_at}
+use Rattle.bc_law_grammar.specs.Machine.{State, Stack, Want, Got, After, InArgs, levels, args_row, Room, NoCall, Unbracketed, run, kind_at}
 use Rattle.bc_parse_expr.specs.Contract.{IsMeasured, ChainIs}
 use Rattle.bc_parse_expr.proofs.expression.+expr.Given as goal
 

@@ -3,7 +3,7 @@ use Rattle.bc_data.specs.Seen.{seen}
 use Rattle.bc_data.specs.SourceTree.{Sequence, Empty}
 use Rattle.bc_data.specs.View.{onto}
 use Rattle.bc_data.specs.declared.tree.ActionText.{ActionText}
-use Rattle.bc_grammar.specs.Machine.{State, Acting, run}
+use Rattle.bc_law_grammar.specs.Machine.{State, Acting, run}
 use Rattle.bc_parse_stat.proofs.exit.actions.Given as goal
 
 abbrev pub invariant-loop-read : goal.invariant-loop-read

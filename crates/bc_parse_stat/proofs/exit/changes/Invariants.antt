@@ -2,7 +2,7 @@ use Rattle.std.proofs.Common.{◌≡◌, ◌≤◌, length}
 use Rattle.bc_data.specs.Seen.{seen}
 use Rattle.bc_data.specs.SourceTree.{Sequence, Empty, Change}
 use Rattle.bc_data.specs.View.{view_change, onto_by}
-use Rattle.bc_grammar.specs.Machine.{State, Changing, run}
+use Rattle.bc_law_grammar.specs.Machine.{State, Changing, run}
 use Rattle.bc_parse_stat.proofs.exit.changes.Given as goal
 
 abbrev pub invariant-loop-read : goal.invariant-loop-read

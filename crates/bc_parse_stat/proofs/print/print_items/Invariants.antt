@@ -2,7 +2,7 @@ use Rattle.std.proofs.Common.{◌≡◌, ◌≤◌, length}
 use Rattle.bc_data.specs.Seen.{seen}
 use Rattle.bc_data.specs.SourceTree.{Sequence, Empty, PrintItem}
 use Rattle.bc_data.specs.View.{view_item, onto_by}
-use Rattle.bc_grammar.specs.Machine.{State, Stack, Printing, levels, run}
+use Rattle.bc_law_grammar.specs.Machine.{State, Stack, Printing, levels, run}
 use Rattle.bc_parse_stat.proofs.print.print_items.Given as goal
 
 abbrev pub invariant-loop-read : goal.invariant-loop-read

@@ -5,7 +5,7 @@ use Rattle.bc_data.specs.SourceTree.{Expressions, Statements, Then, MakeDo}
 use Rattle.bc_data.specs.View.{view}
 use Rattle.bc_data.specs.declared.token.Sign.TheVariants as sign
 use Rattle.bc_data.specs.declared.tree.Named.{Named}
-use Rattle.bc_grammar.specs.Machine.{Stack, InMade, State, Never, OnMark, Stats, args_row, tweaks_row, levels, run}
+use Rattle.bc_law_grammar.specs.Machine.{Stack, InMade, State, Never, OnMark, Stats, args_row, tweaks_row, levels, run}
 use Rattle.bc_parse_expr.specs.Contract.{Stops}
 use Rattle.bc_parse_stat.proofs.Statements.{made_end}
 use Rattle.bc_parse_stat.proofs.row.made_statement.Goals as goal

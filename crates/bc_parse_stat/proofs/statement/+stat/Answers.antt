@@ -5,8 +5,8 @@ use Rattle.bc_data.specs.SourceTree.{Statements, Nothing, Then, Block}
 use Rattle.bc_data.specs.Grammar.{token}
 use Rattle.bc_data.specs.View.{view_stat}
 use Rattle.bc_data.specs.declared.token.Sign.TheVariants as sign
-use Rattle.bc_grammar.specs.Machine.{State, Stack, InBlock, Stats, levels, run}
-use Rattle.bc_grammar.proofs.Steps.{deep}
+use Rattle.bc_law_grammar.specs.Machine.{State, Stack, InBlock, Stats, levels, run}
+use Rattle.bc_law_grammar.proofs.Steps.{deep}
 use Rattle.bc_parse_expr.specs.Contract.{Stops}
 use Rattle.bc_parse_stat.proofs.statement.+stat.Goals as goal
 

@@ -2,7 +2,7 @@ use Rattle.std.proofs.Common.{◌≡◌, ◌+◌, ◌≤◌, length, ◌-◌, �
 use Rattle.bc_data.specs.Seen.{seen}
 use Rattle.bc_data.specs.SourceTree.{Nothing}
 use Rattle.bc_data.specs.View.{stat_views}
-use Rattle.bc_grammar.specs.Machine.{Stats, Stack, levels, run}
+use Rattle.bc_law_grammar.specs.Machine.{Stats, Stack, levels, run}
 use Rattle.bc_parse_stat.proofs.statement.+stat.Given as goal
 
 abbrev pub decreases-statements : goal.decreases-statements

@@ -1,5 +1,5 @@
 use Rattle.std.proofs.Common.{arith}
-use Rattle.bc_events.specs.Events.{halt}
+use Rattle.bc_book_events.specs.Events.{halt}
 use Rattle.bc_serial.specs.Run.{Finishes}
 use Rattle.bc_serial.proofs.Going.{halt_size}
 use Rattle.bc_serial.proofs.Results.{at_err}

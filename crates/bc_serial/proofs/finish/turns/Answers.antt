@@ -1,6 +1,6 @@
 use Rattle.std.proofs.Common.{◌<◌, sym, subst, arith}
-use Rattle.bc_events.specs.Book.{BookState}
-use Rattle.bc_events.specs.Sound.{IsSoundBook}
+use Rattle.bc_book_events.specs.Book.{BookState}
+use Rattle.bc_book_events.specs.Sound.{IsSoundBook}
 use Rattle.bc_serial.proofs.Going.{GoesOn, goes_still, halted, turn_more}
 use Rattle.bc_serial.proofs.Measure.{measure, turn_falls}
 use Rattle.bc_serial.proofs.Results.{on_err_from}

@@ -1,4 +1,4 @@
-use Rattle.bc_events.specs.Sound.{IsSoundBook}
+use Rattle.bc_book_events.specs.Sound.{IsSoundBook}
 use Rattle.bc_serial.proofs.Going.{GoesOn}
 use Rattle.bc_serial.proofs.Measure.{measure}
 use Rattle.bc_serial.proofs.finish.turns.Given as goal

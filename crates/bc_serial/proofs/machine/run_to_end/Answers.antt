@@ -1,6 +1,6 @@
 use Rattle.std.proofs.Common.{◌≡◌, false, sym, ◌∙◌, subst, arith}
 use Rattle.bc_code.specs.Given.{ids_of}
-use Rattle.bc_local.specs.Growth.{has}
+use Rattle.bc_law_locality.specs.Growth.{has}
 use Rattle.bc_step.specs.Area.{AgreesWith, AreaParts, given_of}
 use Rattle.bc_machine.specs.Running.{Tells}
 use Rattle.bc_machine.proofs.Known.{held_kept, lacking, needs_still, one_more_given, same_invocation}

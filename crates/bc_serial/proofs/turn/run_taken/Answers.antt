@@ -4,9 +4,9 @@ use Rattle.bc_mean.specs.Enabled.{IsEnabled}
 use Rattle.bc_step.specs.Area.{AreaParts}
 use Rattle.bc_machine.specs.Running.{AreBodiesOf, IsRunOf}
 use Rattle.bc_machine.specs.Whole.{ComesTo}
-use Rattle.bc_events.specs.declared.answers.Taken.TheVariants as taken
-use Rattle.bc_events.specs.Book.{BookState, held_by}
-use Rattle.bc_events.specs.Turns.{runs_taken}
+use Rattle.bc_book_events.specs.declared.answers.Taken.TheVariants as taken
+use Rattle.bc_book_events.specs.Book.{BookState, held_by}
+use Rattle.bc_book_events.specs.Turns.{runs_taken}
 use Rattle.bc_serial.proofs.Machines.{are_bodies, is_run, ready, unchanged}
 use Rattle.bc_serial.proofs.Results.{on_err_from, on_err_more, on_ok_more}
 use Rattle.bc_serial.proofs.turn.run_taken.Goals as goal

@@ -1,8 +1,7 @@
 use Rattle.std.proofs.Common.{sym, ◌∙◌, subst}
-use Rattle.bc_data.specs.Program.{Parts}
-use Rattle.bc_data.specs.ProgramView.{view_program}
+use Rattle.bc_data.specs.Typed.{TypedProgram}
 use Rattle.bc_code.specs.Translation.{Translates}
-use Rattle.bc_events.specs.declared.answers.Taken.TheVariants as taken
+use Rattle.bc_book_events.specs.declared.answers.Taken.TheVariants as taken
 use Rattle.bc_serial.specs.Run.{HasTaken}
 use Rattle.bc_serial.proofs.Results.{on_err_more, on_ok_more}
 use Rattle.bc_serial.proofs.Taking.{has_taken, same_program, taken_enabled, taken_held, took, turn_is, turn_over}
@@ -17,7 +16,7 @@ pub run_taken-requires-clause-code : goal.run_taken-requires-clause-code
 run_taken-requires-clause-code g c =
     let b = c.args.book.now in
     let t = took b c.is_sound.ensures c.all.result c.all.ensures (taken.Got c.in-Got.v) c.take.new.self c.in-Got.ensures.answer c.in-Got.ensures.book in
-    subst (λ (P : Parts). Translates (view_program P) c.args.code.now) (sym (same_program b c.take.new.self c.in-Got.v t)) c.requires.code
+    subst (λ (P : TypedProgram). Translates P c.args.code.now) (sym (same_program b c.take.new.self c.in-Got.v t)) c.requires.code
 
 pub run_taken-requires-clause-holds : goal.run_taken-requires-clause-holds
 run_taken-requires-clause-holds g c =

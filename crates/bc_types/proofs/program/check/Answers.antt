@@ -2,13 +2,13 @@ use Rattle.std.proofs.Common.{◌≡◌, ap, sym, ◌∙◌}
 use Rattle.std.proofs.lemmas.Result.{err_from_is_err_and}
 use Rattle.bc_data.specs.SourceTree.{Empty}
 use Rattle.bc_data.specs.View.{onto_by, view_text_item, view_tree}
-use Rattle.bc_rules.specs.Declared.{types_of}
-use Rattle.bc_rules.specs.Numbering.{number_of, numbering}
-use Rattle.bc_rules.specs.Got.{Gives}
+use Rattle.bc_types_rules.specs.Declared.{types_of}
+use Rattle.bc_types_rules.specs.Numbering.{number_of, numbering}
+use Rattle.bc_types_rules.specs.Got.{Gives}
 use Rattle.bc_types_expr.specs.Looks.{all_types_seen}
 use Rattle.bc_types.specs.Parts.{parts_seen}
 use Rattle.bc_types.proofs.Whole.{check_walks}
-use Rattle.bc_accepted.proofs.Accepted.{accepted_is_well_typed}
+use Rattle.bc_law_accepted.proofs.Accepted.{accepted_is_well_typed}
 use Rattle.bc_types.proofs.program.check.Goals as goal
 
 pub into_program-requires : goal.into_program-requires

@@ -1,7 +1,7 @@
 use Rattle.std.proofs.Common.{◌<◌, ◌∙◌, ◌∷◌, [], length, arith}
 use Rattle.bc_data.specs.View.{view_text_item}
-use Rattle.bc_rules.specs.Declared.{startup_types, with_item}
-use Rattle.bc_rules.specs.Numbering.{number_of}
+use Rattle.bc_types_rules.specs.Declared.{startup_types, with_item}
+use Rattle.bc_types_rules.specs.Numbering.{number_of}
 use Rattle.bc_types_expr.specs.Looks.{all_types_seen}
 use Rattle.bc_types.proofs.Folds.{fold_next}
 use Rattle.bc_types.proofs.types.types_of.Goals as goal

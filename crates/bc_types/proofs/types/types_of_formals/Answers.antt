@@ -1,7 +1,7 @@
 use Rattle.std.proofs.Common.{◌<◌, ◌∙◌, ap, length, map, arith}
 use Rattle.bc_data.specs.declared.tree.Formal.{Formal}
-use Rattle.bc_rules.specs.Context.{type_of}
-use Rattle.bc_rules.specs.Numbering.{number_of}
+use Rattle.bc_types_rules.specs.Context.{type_of}
+use Rattle.bc_types_rules.specs.Numbering.{number_of}
 use Rattle.bc_types_expr.specs.Types.{type_seen}
 use Rattle.bc_types.proofs.Folds.{each_next}
 use Rattle.bc_types.proofs.types.types_of_formals.Goals as goal

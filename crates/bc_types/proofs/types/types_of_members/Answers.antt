@@ -1,7 +1,7 @@
 use Rattle.std.proofs.Common.{◌<◌, ◌∙◌, length, arith}
 use Rattle.bc_data.specs.View.{view_member}
-use Rattle.bc_rules.specs.Declared.{no_types, with_member}
-use Rattle.bc_rules.specs.Numbering.{number_of}
+use Rattle.bc_types_rules.specs.Declared.{no_types, with_member}
+use Rattle.bc_types_rules.specs.Numbering.{number_of}
 use Rattle.bc_types_expr.specs.Looks.{class_types_seen}
 use Rattle.bc_types.proofs.Folds.{fold_next}
 use Rattle.bc_types.proofs.types.types_of_members.Goals as goal

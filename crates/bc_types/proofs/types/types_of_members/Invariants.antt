@@ -1,8 +1,8 @@
 use Rattle.std.proofs.Common.{◌≡◌, take}
 use Rattle.bc_data.specs.SourceTree.{Empty}
 use Rattle.bc_data.specs.View.{onto_by, view_member}
-use Rattle.bc_rules.specs.Declared.{fold_all, no_types, with_member}
-use Rattle.bc_rules.specs.Numbering.{number_of}
+use Rattle.bc_types_rules.specs.Declared.{fold_all, no_types, with_member}
+use Rattle.bc_types_rules.specs.Numbering.{number_of}
 use Rattle.bc_types_expr.specs.Looks.{class_types_seen}
 use Rattle.bc_types.proofs.types.types_of_members.Given as goal
 

@@ -1,9 +1,7 @@
-use Rattle.std.proofs.Common.{◌<◌, ◌≤◌, length, arith}
-use Rattle.std.proofs.lemmas.List.{length-map}
+use Rattle.std.proofs.Common.{◌<◌, length, arith}
 use Rattle.std.proofs.lemmas.Result.{err_from_is_err_and}
 use Rattle.bc_data.specs.View.{view_text_item}
-use Rattle.bc_data.specs.ProgramView.{view_class}
-use Rattle.bc_rules.specs.Walk.{check_item, startup_program}
+use Rattle.bc_types_rules.specs.Walk.{check_item, startup_program}
 use Rattle.bc_types_expr.specs.Looks.{looks}
 use Rattle.bc_names.proofs.Walk.{walk_on, walk_stops}
 use Rattle.bc_types.specs.Parts.{parts_seen}
@@ -12,8 +10,9 @@ use Rattle.bc_types.proofs.walk.walk.Goals as goal
 
 pub add-requires : goal.add-requires
 add-requires c =
-    let few : length (parts_seen c.loop-item.parts).classes ≤ 256 = few_classes (looks c.args.table.now) view_text_item c.args.table.now.names (parts_seen c.loop-item.parts) c.args.items.now c.loop-item.item-index c.requires.numbered c.loop-item.invariant in
-    rw (length-map c.loop-item.parts.classes.items view_class) at few
+    let p = parts_seen c.loop-item.parts in
+    few_classes (looks c.args.table.now) view_text_item c.args.table.now.names p c.args.items.now
+    c.loop-item.item-index c.requires.numbered c.loop-item.invariant
 
 pub returns-in_err-add : goal.returns-in_err-add
 returns-in_err-add c =

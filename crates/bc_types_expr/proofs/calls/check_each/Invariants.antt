@@ -1,5 +1,5 @@
 use Rattle.std.proofs.Common.{◌≡◌, ◌-◌, drop, length}
-use Rattle.bc_rules.specs.Expressions.{check_fits}
+use Rattle.bc_types_rules.specs.Expressions.{check_fits}
 use Rattle.bc_types_expr.specs.Types.{types_seen}
 use Rattle.bc_types_expr.specs.Expressions.{each_seen}
 use Rattle.bc_types_expr.proofs.calls.check_each.Given as goal

@@ -2,8 +2,8 @@ use Rattle.std.proofs.Common.{◌≡◌, ◌<◌, subst, refl, length, arith}
 use Rattle.std.proofs.lemmas.Result.{err_from_is_err_and}
 use Rattle.bc_data.specs.SourceTree.{NoArg, Empty}
 use Rattle.bc_data.specs.View.{view, views, onto}
-use Rattle.bc_rules.specs.Got.{Gives}
-use Rattle.bc_rules.specs.Expressions.{infer, infer_all}
+use Rattle.bc_types_rules.specs.Got.{Gives}
+use Rattle.bc_types_rules.specs.Expressions.{infer, infer_all}
 use Rattle.bc_names.specs.Answers.{Answers, Stops}
 use Rattle.bc_types_expr.specs.Contexts.{context_of}
 use Rattle.bc_types_expr.specs.Expressions.{arguments_seen, typed_seen}

@@ -1,8 +1,8 @@
 use Rattle.std.proofs.Common.{◌≡◌, take}
 use Rattle.bc_data.specs.SourceTree.{NoArg}
 use Rattle.bc_data.specs.View.{views}
-use Rattle.bc_rules.specs.Got.{Gives}
-use Rattle.bc_rules.specs.Expressions.{infer_all}
+use Rattle.bc_types_rules.specs.Got.{Gives}
+use Rattle.bc_types_rules.specs.Expressions.{infer_all}
 use Rattle.bc_types_expr.specs.Contexts.{context_of}
 use Rattle.bc_types_expr.proofs.LeftToRight.{read}
 use Rattle.bc_types_expr.proofs.expressions.+expressions.Given as goal

@@ -2,9 +2,9 @@ use Rattle.std.proofs.Common.{◌≡◌, subst}
 use Rattle.std.proofs.lemmas.Result.{err_from_is_err_and}
 use Rattle.bc_data.specs.SourceTree.{NoArg}
 use Rattle.bc_data.specs.View.{view, views}
-use Rattle.bc_rules.specs.Got.{Gives}
-use Rattle.bc_rules.specs.Expressions.{check_call, infer, infer_all}
-use Rattle.bc_rules.specs.Statements.{infer_call}
+use Rattle.bc_types_rules.specs.Got.{Gives}
+use Rattle.bc_types_rules.specs.Expressions.{check_call, infer, infer_all}
+use Rattle.bc_types_rules.specs.Statements.{infer_call}
 use Rattle.bc_names.specs.Answers.{Stops}
 use Rattle.bc_types_expr.specs.Contexts.{context_of}
 use Rattle.bc_types_expr.specs.Expressions.{arguments_seen, called_seen, typed_seen}

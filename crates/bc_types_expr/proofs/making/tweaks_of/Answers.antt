@@ -3,8 +3,8 @@ use Rattle.std.proofs.lemmas.List.{take_all}
 use Rattle.std.proofs.lemmas.Result.{err_from_is_err_and}
 use Rattle.bc_data.specs.SourceTree.{Empty}
 use Rattle.bc_data.specs.View.{onto_by}
-use Rattle.bc_rules.specs.Numbering.{try_fold}
-use Rattle.bc_rules.specs.Expressions.{check_tweak}
+use Rattle.bc_types_rules.specs.Numbering.{try_fold}
+use Rattle.bc_types_rules.specs.Expressions.{check_tweak}
 use Rattle.bc_names.proofs.Walk.{walk_on, walk_stops}
 use Rattle.bc_names.specs.Answers.{Stops}
 use Rattle.bc_types_expr.specs.Looks.{looks}

@@ -1,5 +1,5 @@
 use Rattle.std.proofs.Common.{◌≡◌, drop}
-use Rattle.bc_rules.specs.Context.{find_in}
+use Rattle.bc_types_rules.specs.Context.{find_in}
 use Rattle.bc_types_expr.specs.Scopes.{known_seen}
 use Rattle.bc_types_expr.proofs.scope.find_name.Given as goal
 

@@ -1,6 +1,6 @@
 use Rattle.std.proofs.Common.{◌<◌, length, arith}
 use Rattle.std.proofs.lemmas.Result.{err_from_is_err_and}
-use Rattle.bc_rules.specs.Statements.{check_action}
+use Rattle.bc_types_rules.specs.Statements.{check_action}
 use Rattle.bc_types_expr.specs.Looks.{looks}
 use Rattle.bc_types_stat.specs.Bodies.{parameter_seen}
 use Rattle.bc_types_stat.proofs.Walks.{fold_on, fold_stops}

@@ -3,9 +3,9 @@ use Rattle.std.specs.List.{list_any}
 use Rattle.std.proofs.lemmas.Result.{err_from_is_err_and}
 use Rattle.bc_data.specs.SourceTree.{Empty}
 use Rattle.bc_data.specs.View.{onto}
-use Rattle.bc_rules.specs.Got.{ask, Gives, Twice}
-use Rattle.bc_rules.specs.Numbering.{try_fold}
-use Rattle.bc_rules.specs.Statements.{check_action}
+use Rattle.bc_types_rules.specs.Got.{ask, Gives, Twice}
+use Rattle.bc_types_rules.specs.Numbering.{try_fold}
+use Rattle.bc_types_rules.specs.Statements.{check_action}
 use Rattle.bc_names.specs.Answers.{Stops}
 use Rattle.bc_types_expr.specs.Looks.{looks}
 use Rattle.bc_types_stat.specs.Bodies.{exiting_seen, parameter_seen}

@@ -1,7 +1,7 @@
 use Rattle.std.proofs.Common.{◌<◌, length, arith}
 use Rattle.std.proofs.lemmas.Result.{err_from_is_err_and}
 use Rattle.bc_data.specs.View.{view_change}
-use Rattle.bc_rules.specs.Statements.{check_change, none_named}
+use Rattle.bc_types_rules.specs.Statements.{check_change, none_named}
 use Rattle.bc_names.proofs.Walk.{walk_on, walk_stops}
 use Rattle.bc_types_expr.specs.Looks.{looks}
 use Rattle.bc_types_stat.specs.Bodies.{exiting_seen}

@@ -2,7 +2,7 @@ use Rattle.std.proofs.Common.{◌≡◌, ◌∙◌, ◌&&◌, true, false, ap, s
 use Rattle.bc_data.specs.SourceTree.{Nothing}
 use Rattle.bc_data.specs.View.{stat_views, view_stat}
 use Rattle.bc_data.specs.declared.tree.StatText.TheVariants as stat
-use Rattle.bc_rules.specs.Statements as rules
+use Rattle.bc_types_rules.specs.Statements as rules
 use Rattle.bc_types_stat.proofs.Leaving.{last_leaves, leaves_block, leaves_if}
 use Rattle.bc_types_stat.proofs.leaves.+leaves.Goals as goal
 

@@ -1,14 +1,13 @@
-use Rattle.std.proofs.Common.{◌≡◌, ◌∙◌, map, ap, sym, subst}
-use Rattle.std.proofs.lemmas.List.{map-append}
+use Rattle.std.proofs.Common.{◌≡◌, [], ◌∷◌, ◌++◌, ◌∙◌, ap, sym, subst}
 use Rattle.std.proofs.lemmas.Result.{err_from_is_err_and}
 use Rattle.bc_data.specs.SourceTree.{Empty}
 use Rattle.bc_data.specs.View.{onto, view_guard}
-use Rattle.bc_rules.specs.Got.{Gives, Unknown, find}
-use Rattle.bc_rules.specs.Numbering.{try_fold}
-use Rattle.bc_rules.specs.Bodies as rules
-use Rattle.bc_rules.specs.Bodies.{check_bind}
-use Rattle.bc_rules.specs.Context.{with_parameter}
-use Rattle.bc_data.specs.ProgramView.{view_flag_expr, view_program_param}
+use Rattle.bc_types_rules.specs.Got.{Gives, Unknown, find}
+use Rattle.bc_types_rules.specs.Numbering.{try_fold}
+use Rattle.bc_types_rules.specs.Bodies as rules
+use Rattle.bc_types_rules.specs.Bodies.{check_bind}
+use Rattle.bc_types_rules.specs.Context.{with_parameter}
+use Rattle.bc_data.specs.ProgramView.{view_flag_expr}
 use Rattle.bc_names.specs.Answers.{Stops}
 use Rattle.bc_types_expr.specs.Looks.{looks}
 use Rattle.bc_types_stat.specs.Bodies.{binds_seen, params_seen, unbound}
@@ -39,7 +38,7 @@ returns c =
     let found = subst (λ name. find (N.class_of name) Unknown p.class.at ≡ Gives c.in_ok-class.class) c.as_slice.ensures c.in_ok-class.ensures in
     let bound = subst (λ s. try_fold (check_bind N) (unbound s) binds ≡ Gives bs) c.in_ok-scope.ensures (subst (λ xs. try_fold (check_bind N) (unbound c.in_ok-scope.scope) (onto xs Empty) ≡ Gives bs) c.as_slice-2.ensures.value c.in_ok-binds.ensures) in
     let made = view_flag_expr c.in_ok-guard.guard in
-    let each = ap (map view_program_param) c.in_ok-push.ensures.items ∙ map-append view_program_param c.args.params.each.items _ in
+    let each = c.in_ok-push.ensures.items ∙ ap (λ q. ps.each ++ q ∷ []) c.new-param.ensures in
     param_is N ps p.class p.name (view_guard p.guard) binds c.in_ok-class.class made found c.in_ok-check_parameter.ensures.answers c.in_ok-guard.ensures
     ∙ goes_on _ (params_with N ps p.class p.name (view_guard p.guard) binds c.in_ok-class.class made) bs bound
     ∙ ap (λ xs. let r : rules.Params = record { each = xs; scope = bs.scope } in Gives r) (sym each)

@@ -2,7 +2,7 @@ use Rattle.std.proofs.Common.{sym, subst}
 use Rattle.std.proofs.lemmas.Result.{err_from_is_err_and}
 use Rattle.bc_data.specs.SourceTree.{Empty}
 use Rattle.bc_data.specs.View.{onto_by, view_item}
-use Rattle.bc_rules.specs.Got.{Gives, ◌>>=◌}
+use Rattle.bc_types_rules.specs.Got.{Gives, ◌>>=◌}
 use Rattle.bc_data.specs.Typed as typed
 use Rattle.bc_names.specs.Answers.{Stops}
 use Rattle.bc_types_expr.specs.Contexts.{context_of}

@@ -1,7 +1,7 @@
 use Rattle.std.proofs.Common.{◌<◌, ◌∙◌, [], ap, sym, length, arith}
 use Rattle.std.proofs.lemmas.Result.{err_from_is_err_and}
 use Rattle.bc_data.specs.View.{view_item}
-use Rattle.bc_rules.specs.Got.{Gives, ◌>>=◌}
+use Rattle.bc_types_rules.specs.Got.{Gives, ◌>>=◌}
 use Rattle.bc_names.proofs.Walk.{walk_on, walk_stops}
 use Rattle.bc_types_expr.specs.Contexts.{context_of}
 use Rattle.bc_types_stat.specs.Bodies.{printed_seen, read_next, with_part}

@@ -3,8 +3,8 @@ use Rattle.std.proofs.lemmas.List.{take_all}
 use Rattle.std.proofs.lemmas.Result.{err_from_is_err_and}
 use Rattle.bc_data.specs.SourceTree as source
 use Rattle.bc_data.specs.View.{onto_by, stat_views, view_change, view_item, view_stat}
-use Rattle.bc_rules.specs.Got.{Gives}
-use Rattle.bc_rules.specs.Statements.{state}
+use Rattle.bc_types_rules.specs.Got.{Gives}
+use Rattle.bc_types_rules.specs.Statements.{state}
 use Rattle.bc_data.specs.Typed as typed
 use Rattle.bc_data.specs.ProgramView.{program_stat_views, view_program_stat}
 use Rattle.bc_names.specs.Answers.{Answers, Stops}

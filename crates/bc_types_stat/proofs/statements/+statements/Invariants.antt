@@ -1,5 +1,5 @@
 use Rattle.std.proofs.Common.{◌≡◌, take}
-use Rattle.bc_rules.specs.Got.{Gives}
+use Rattle.bc_types_rules.specs.Got.{Gives}
 use Rattle.bc_data.specs.Typed.{Nothing}
 use Rattle.bc_data.specs.ProgramView.{program_stat_views}
 use Rattle.bc_types_expr.specs.Contexts.{context_of}

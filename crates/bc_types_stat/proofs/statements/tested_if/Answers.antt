@@ -1,5 +1,5 @@
 use Rattle.std.proofs.Common.{◌∙◌, ap, sym}
-use Rattle.bc_rules.specs.Got.{Gives, Mismatch, ask, ◌>>=◌}
+use Rattle.bc_types_rules.specs.Got.{Gives, Mismatch, ask, ◌>>=◌}
 use Rattle.bc_data.specs.Typed as typed
 use Rattle.bc_data.specs.ProgramView.{program_stat_views, view_expr}
 use Rattle.bc_types_stat.proofs.Rows.{seen_if}

@@ -1,8 +1,8 @@
-use Rattle.std.proofs.Common.{◌≡◌, ◌∙◌, subst}
+use Rattle.std.proofs.Common.{◌≡◌, ◌∙◌, ap, sym, subst}
 use Rattle.std.proofs.lemmas.Result.{err_from_is_err_and}
 use Rattle.bc_data.specs.SourceTree.{Empty, Nothing}
 use Rattle.bc_data.specs.View.{onto_by, stat_views, view_param}
-use Rattle.bc_rules.specs.Got.{Gives}
+use Rattle.bc_types_rules.specs.Got.{Gives}
 use Rattle.bc_data.specs.Typed as typed
 use Rattle.bc_data.specs.ProgramView.{program_stat_views}
 use Rattle.bc_names.specs.Answers.{Stops}
@@ -20,7 +20,8 @@ returns-in_err-body c =
     let given = subst (λ xs. check_params N (onto_by view_param xs Empty) ≡ Gives ps) c.as_slice.ensures.value c.in_ok-params.ensures in
     let stop = subst (λ s. Stops f (block_of (in_task N) s (stat_views t.body.items Nothing))) c.into_parts-scope.ensures.scope (subst (λ xs. Stops f (block_of (in_task N) c.into_parts-scope.result.0 (stat_views xs Nothing))) c.as_slice-2.ensures.value c.in_err-body.ensures) in
     let p = err_from_is_err_and c.from_residual-in_err-body.result c.from_residual-in_err-body.ensures.1 in
-    rw (p.1, p.2) (task_stops N t.at t.name (onto_by view_param t.params.items Empty) (stat_views t.body.items Nothing) ps f given stop)
+    let params = onto_by view_param t.params.items Empty in
+    rw (p.1, p.2) (task_stops N t.at t.name params (stat_views t.body.items Nothing) ps f given stop)
 
 pub returns : goal.returns
 returns c =
@@ -31,4 +32,9 @@ returns c =
     let b = all_stated (program_stat_views c.in_ok-body.body.items typed.Nothing) c.block.new.scope in
     let e = subst (λ s. block_of (in_task N) s (stat_views t.body.items Nothing) ≡ Gives b) c.into_parts-scope.ensures.scope (subst (λ xs. block_of (in_task N) c.into_parts-scope.result.0 (stat_views xs Nothing) ≡ Gives b) c.as_slice-2.ensures.value c.in_ok-body.ensures) in
     let name = c.in_ok-name.ensures ∙ c.as_slice-3.ensures in
-    task_gives N t.at t.name (onto_by view_param t.params.items Empty) (stat_views t.body.items Nothing) ps c.in_ok-name.name c.into_parts-scope.result.1.items c.slots-locals.result c.tags-tags.result b.codes b.scope given e name c.into_parts-scope.ensures.types c.slots-locals.ensures c.tags-tags.ensures
+    let params = onto_by view_param t.params.items Empty in
+    let variables = c.into_parts-scope.result.1.items in
+    task_gives N t.at t.name params (stat_views t.body.items Nothing) ps
+    c.in_ok-name.name variables c.slots-locals.result c.tags-tags.result b.codes b.scope given e
+    name c.into_parts-scope.ensures.types c.slots-locals.ensures c.tags-tags.ensures
+    ∙ ap Gives (sym c.new.ensures)

@@ -5,10 +5,10 @@ use Rattle.std.proofs.lemmas.Option.{same_Some}
 use Rattle.bc_data.specs.declared.run.Body.{Body}
 use Rattle.bc_data.specs.declared.run.Invocation.{Invocation}
 use Rattle.bc_mean.specs.Enabled.{is_enabled}
-use Rattle.bc_events.specs.declared.answers.Begun.{Begun}
-use Rattle.bc_events.specs.declared.answers.Begun.TheVariants as begins
-use Rattle.bc_events.specs.Book.{BookState, held_by}
-use Rattle.bc_events.specs.Events.{Step, answers, begin}
+use Rattle.bc_book_events.specs.declared.answers.Begun.{Begun}
+use Rattle.bc_book_events.specs.declared.answers.Begun.TheVariants as begins
+use Rattle.bc_book_events.specs.Book.{BookState, held_by}
+use Rattle.bc_book_events.specs.Events.{Step, answers, begin}
 use Rattle.bc_book.specs.Kept.{state_of}
 use Rattle.bc_book.proofs.Events.{begin_as}
 use Rattle.bc_book.proofs.Kept.{seen, with_lists}

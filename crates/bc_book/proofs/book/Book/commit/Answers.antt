@@ -10,16 +10,16 @@ use Rattle.bc_step.specs.Area.{AgreesWith, AreaParts, given_of}
 use Rattle.bc_mean.specs.Changes.{changes_between, fault_of_room}
 use Rattle.bc_mean.specs.declared.plain.Plain.{Plain}
 use Rattle.bc_machine.specs.Running.{IsAtExit, work_of}
-use Rattle.bc_events.specs.declared.answers.Commit.{Commit}
-use Rattle.bc_events.specs.declared.answers.Commit.TheVariants as ends
-use Rattle.bc_events.specs.Book.{BookState, held_by}
-use Rattle.bc_events.specs.Events.{Step, answers, commit_with_room, over}
-use Rattle.bc_events.specs.Sound.{IsSoundBook}
-use Rattle.bc_events.specs.SoundLaws.{EndsSo}
-use Rattle.bc_events.specs.Steps.{put_back}
-use Rattle.bc_runs.specs.Areas.{IsAreaOf, WasEnabled, changes_of, moved_in}
-use Rattle.bc_runs.proofs.Areas.{areas_keep_sound, local_ends}
-use Rattle.bc_moves.specs.Moves.{guard_tests}
+use Rattle.bc_book_events.specs.declared.answers.Commit.{Commit}
+use Rattle.bc_book_events.specs.declared.answers.Commit.TheVariants as ends
+use Rattle.bc_book_events.specs.Book.{BookState, held_by}
+use Rattle.bc_book_events.specs.Events.{Step, answers, commit_with_room, over}
+use Rattle.bc_book_events.specs.Sound.{IsSoundBook}
+use Rattle.bc_book_events.specs.SoundLaws.{EndsSo}
+use Rattle.bc_book_events.specs.Steps.{put_back}
+use Rattle.bc_law_core.specs.Areas.{IsAreaOf, WasEnabled, changes_of, moved_in}
+use Rattle.bc_law_core.proofs.Areas.{areas_keep_sound, local_ends}
+use Rattle.bc_book_reshaped.specs.Reshaped.{guard_tests}
 use Rattle.bc_book.specs.Ends.{TestsAtMost, commits}
 use Rattle.bc_book.specs.Kept.{IsKept, state_of}
 use Rattle.bc_book.specs.declared.book.Book.TheInside.{Inside}

@@ -3,10 +3,10 @@ use Rattle.std.proofs.lemmas.Option.{same_Some}
 use Rattle.bc_data.specs.declared.run.Invocation.{Invocation}
 use Rattle.bc_data.specs.declared.run.Stop.TheVariants as stop
 use Rattle.bc_mean.specs.Changes.{apply_changes}
-use Rattle.bc_events.specs.declared.answers.Commit.{Commit}
-use Rattle.bc_events.specs.Book.{BookState}
-use Rattle.bc_events.specs.Events.{Step, over}
-use Rattle.bc_events.specs.Sound.{IsSoundBook}
+use Rattle.bc_book_events.specs.declared.answers.Commit.{Commit}
+use Rattle.bc_book_events.specs.Book.{BookState}
+use Rattle.bc_book_events.specs.Events.{Step, over}
+use Rattle.bc_book_events.specs.Sound.{IsSoundBook}
 use Rattle.bc_book.proofs.Committing.{commit_spent}
 use Rattle.bc_book.proofs.book.Book.commit_to.Goals as goal
 

@@ -3,14 +3,14 @@ use Rattle.std.proofs.lemmas.Option.{same_Some}
 use Rattle.std.specs.Prelude.{All}
 use Rattle.bc_data.specs.declared.run.Invocation.{Invocation}
 use Rattle.bc_step.specs.Area.{AreaParts, given_of}
-use Rattle.bc_events.specs.declared.answers.Failing.{Failing}
-use Rattle.bc_events.specs.declared.answers.Failing.TheVariants as failing
-use Rattle.bc_events.specs.Book.{BookState, held_by}
-use Rattle.bc_events.specs.Events.{Step, answers}
-use Rattle.bc_events.specs.Sound.{IsSoundBook}
-use Rattle.bc_events.specs.Steps.{put_back}
-use Rattle.bc_runs.specs.Areas.{moved_in}
-use Rattle.bc_runs.proofs.Areas.{areas_keep_sound}
+use Rattle.bc_book_events.specs.declared.answers.Failing.{Failing}
+use Rattle.bc_book_events.specs.declared.answers.Failing.TheVariants as failing
+use Rattle.bc_book_events.specs.Book.{BookState, held_by}
+use Rattle.bc_book_events.specs.Events.{Step, answers}
+use Rattle.bc_book_events.specs.Sound.{IsSoundBook}
+use Rattle.bc_book_events.specs.Steps.{put_back}
+use Rattle.bc_law_core.specs.Areas.{moved_in}
+use Rattle.bc_law_core.proofs.Areas.{areas_keep_sound}
 use Rattle.bc_book.specs.Ends.{fails}
 use Rattle.bc_book.specs.declared.book.Book.TheInside.{Inside}
 use Rattle.bc_book.specs.Kept.{state_of}

@@ -1,6 +1,6 @@
 use Rattle.std.proofs.Common.{◌≡◌, sym, subst, ◌∙◌}
 use Rattle.bc_mean.specs.Enabled.{is_enabled}
-use Rattle.bc_events.specs.Book.{BookState}
+use Rattle.bc_book_events.specs.Book.{BookState}
 use Rattle.bc_book.proofs.Leaving.{back_kept}
 use Rattle.bc_book.proofs.book.Book.give_up.Goals as goal
 

@@ -1,8 +1,8 @@
 use Rattle.std.proofs.Common.{Option, sym, ap, ◌∙◌}
 use Rattle.bc_data.specs.declared.run.Stop.{Stop}
 use Rattle.bc_data.specs.declared.run.Stop.TheVariants as stop
-use Rattle.bc_events.specs.Book.{BookState}
-use Rattle.bc_events.specs.Steps.{stopped}
+use Rattle.bc_book_events.specs.Book.{BookState}
+use Rattle.bc_book_events.specs.Steps.{stopped}
 use Rattle.bc_book.specs.Kept.{state_of}
 use Rattle.bc_book.proofs.Events.{halt_as}
 use Rattle.bc_book.proofs.book.Book.halt.Goals as goal

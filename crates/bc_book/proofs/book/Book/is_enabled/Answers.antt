@@ -1,6 +1,6 @@
 use Rattle.std.proofs.Common.{◌≡◌, subst}
 use Rattle.bc_mean.specs.Enabled.{is_enabled}
-use Rattle.bc_events.specs.Book.{BookState}
+use Rattle.bc_book_events.specs.Book.{BookState}
 use Rattle.bc_book.specs.Kept.{state_of}
 use Rattle.bc_params.proofs.Searchable.{program_binds}
 use Rattle.bc_book.proofs.book.Book.is_enabled.Goals as goal

@@ -1,7 +1,7 @@
 use Rattle.std.proofs.Common.{◌≡◌, Bool, Option, IfSome, sym, ap, subst, ◌∙◌}
 use Rattle.bc_data.specs.declared.run.Invocation.{Invocation}
 use Rattle.bc_mean.specs.Enabled.{is_enabled}
-use Rattle.bc_events.specs.Events.{Step, given_up}
+use Rattle.bc_book_events.specs.Events.{Step, given_up}
 use Rattle.bc_book.proofs.Events.{lose_as}
 use Rattle.bc_book.proofs.book.Book.lose.Goals as goal
 

@@ -3,7 +3,7 @@ use Rattle.bc_mean.specs.declared.plain.Plain.{Plain}
 use Rattle.bc_mean.specs.Store.{start_store}
 use Rattle.bc_mean.specs.Work.{look_of}
 use Rattle.bc_pending.specs.Lists.{Lists}
-use Rattle.bc_sets.specs.Kept.{AreSets}
+use Rattle.bc_params_sets.specs.Kept.{AreSets}
 use Rattle.bc_store.specs.Store.{StoreParts}
 use Rattle.bc_params.specs.Places.{ParamParts}
 use Rattle.bc_book.proofs.AtStart.{each_byte, start_kept}

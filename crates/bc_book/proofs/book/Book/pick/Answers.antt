@@ -1,6 +1,6 @@
 use Rattle.std.proofs.Common.{◌≡◌, ◌<◌, Bool, None, length, sym, ap, subst}
-use Rattle.bc_events.specs.Book.{BookState, held_by}
-use Rattle.bc_events.specs.Events.{Step, answers, pick}
+use Rattle.bc_book_events.specs.Book.{BookState, held_by}
+use Rattle.bc_book_events.specs.Events.{Step, answers, pick}
 use Rattle.bc_book.specs.Kept.{state_of}
 use Rattle.bc_book.proofs.Kept.{seen, with_lists}
 use Rattle.bc_book.proofs.Taking.{ThisOne, this_kept, this_picked}

@@ -6,21 +6,21 @@ use Rattle.bc_mean.specs.declared.plain.Plain.{Plain}
 use Rattle.bc_mean.specs.Changes.{apply_changes, fault_of_room}
 use Rattle.bc_mean.specs.Enabled.{IsEnabled}
 use Rattle.bc_mean.specs.Outcome.{body_outcome}
-use Rattle.bc_moves.specs.Moves.{KindsStay, guard_tests}
-use Rattle.bc_events.specs.Book.{BookState, held_by}
+use Rattle.bc_book_reshaped.specs.Reshaped.{KindsStay, guard_tests}
+use Rattle.bc_book_events.specs.Book.{BookState, held_by}
 use Rattle.bc_data.specs.declared.run.Stop.TheVariants as stop
 use Rattle.bc_data.specs.declared.run.Written.{Written}
 use Rattle.bc_mean.specs.Enabled.{is_enabled}
 use Rattle.bc_mean.specs.Serial.{Failed, is_crowded}
-use Rattle.bc_sets.specs.Kept.{Kept}
+use Rattle.bc_params_sets.specs.Kept.{Kept}
 use Rattle.bc_store.specs.Resolved.{resolved}
-use Rattle.bc_events.specs.declared.answers.Commit.{Commit}
-use Rattle.bc_events.specs.declared.answers.Commit.TheVariants as ends
-use Rattle.bc_events.specs.Events.{Step, answers, commit_to, over}
-use Rattle.bc_events.specs.Moves.{MovesOnly, names_any}
-use Rattle.bc_events.specs.Sound.{IsSoundBook}
-use Rattle.bc_events.specs.Steps.{committed, failures_left}
-use Rattle.bc_search.specs.Search.{AreOf, IsFound}
+use Rattle.bc_book_events.specs.declared.answers.Commit.{Commit}
+use Rattle.bc_book_events.specs.declared.answers.Commit.TheVariants as ends
+use Rattle.bc_book_events.specs.Events.{Step, answers, commit_to, over}
+use Rattle.bc_book_events.specs.Reshaped.{ReshapesOnly, names_any}
+use Rattle.bc_book_events.specs.Sound.{IsSoundBook}
+use Rattle.bc_book_events.specs.Steps.{committed, failures_left}
+use Rattle.bc_book_lists.specs.Search.{AreOf, IsFound}
 use Rattle.std.proofs.lemmas.Option.{same_Some}
 use Rattle.bc_book.specs.Commits.{ArePartsOf, IsReady, MayAppend, MayCommit}
 use Rattle.bc_book.specs.declared.commit.Ready.{Ready}
@@ -32,14 +32,14 @@ use Rattle.bc_book.proofs.book.Book.publish.Goals as goal
 
 -- the pending list, and the book, behind a commit
 abbrev listed_behind : Inside → Changes → List ℕ → List Invocation → Bool → List Invocation
-listed_behind i c moved found falls =
-    cond falls (filter (λ w. not (names_any moved w) || is_enabled i.program (apply_changes i.store.plain c) w) i.pending.listed) i.pending.listed ++ found
+listed_behind i c reshaped found falls =
+    cond falls (filter (λ w. not (names_any reshaped w) || is_enabled i.program (apply_changes i.store.plain c) w) i.pending.listed) i.pending.listed ++ found
 
 abbrev settled_state : Inside → ℕ → Invocation → Changes → List ℕ → List ℕ → List Invocation → Bool → BookState
-settled_state i worker v c moved changed found falls = record (state_of i) {
+settled_state i worker v c reshaped changed found falls = record (state_of i) {
   store = apply_changes i.store.plain c;
   history = i.history.items ++ v ∷ [];
-  pending = listed_behind i c moved found falls;
+  pending = listed_behind i c reshaped found falls;
   running = set i.pending.held worker None;
   failures = failures_left changed i.failures.failures;
 }
@@ -75,7 +75,7 @@ make_ready-requires-clause-book g c = (
 -- what `make_ready` says where there is something, and where there is nothing
 abbrev WillBeReady : Invocation → Plain → List Invocation → List (Option Invocation) → List Failed → Kept → Changes → Kept → Ready → Type 0
 WillBeReady v S vs held fs kept c next r =
-    (b : BookState) (worker : ℕ) → ArePartsOf b worker v S vs held fs kept → IsReady b c worker v r.moved.items r.changed.items r.found.appended r.found.falls next
+    (b : BookState) (worker : ℕ) → ArePartsOf b worker v S vs held fs kept → IsReady b c worker v r.reshaped.items r.changed.items r.found.appended r.found.falls next
 
 abbrev TestsFew : Invocation → Plain → List Invocation → List (Option Invocation) → List Failed → Kept → Changes → ℕ → ℕ → Ready → Type 0
 TestsFew v S vs held fs kept c old new r = (b : BookState) (worker : ℕ) → ArePartsOf b worker v S vs held fs kept → new ≤ old + guard_tests b.program c
@@ -122,16 +122,16 @@ returns-in_default-clause-book g c =
     ∙ sym (ap (λ (s : Step Commit). s.book) (commit_crowded c.args.self.now (apply_changes c.args.self.now.store c.args.changes) c.args.worker c.args.v c.requires.left (crowded_in c.self.inside c.args.self.now c.self.view_is c.args.changes c.resolve.new.changes c.resolve.ensures.same (none_of c.make_ready.result c.in_ok-ready.ready (NotReady c.args.v c.self.inside.store.plain c.self.inside.pending.listed c.self.inside.pending.held c.self.inside.failures.failures c.self.inside.params.kept c.resolve.new.changes c.make_ready.new.params.kept) c.in_ok-ready.was c.in_default.is c.make_ready.ensures.none (state_of c.self.inside) c.args.worker (its_parts c.self.inside c.args.worker c.args.v c.args.changes c.self.invariant (may c.self.inside c.args.self.now c.self.view_is c.self.invariant c.args.worker c.args.v c.args.changes c.requires.holds c.requires.enabled c.requires.exits c.requires.room))).0)))
 
 -- what is ready, of the changes as they were
-module _ (i : Inside) (worker : ℕ) (v : Invocation) (c d : Changes) (m : MayCommit (state_of i) worker v c) (new : d ≡ resolved i.store.plain c) (same : apply_changes i.store.plain d ≡ apply_changes i.store.plain c) (moved changed : List ℕ) (found : List Invocation) (falls : Bool) (kept : Kept)
-    (r : IsReady (state_of i) d worker v moved changed found falls kept) where
-  moves_in_T : MovesOnly moved i.store.plain (apply_changes i.store.plain c)
-  moves_in_T = subst (λ (T : Plain). MovesOnly moved i.store.plain T) same r.moves
+module _ (i : Inside) (worker : ℕ) (v : Invocation) (c d : Changes) (m : MayCommit (state_of i) worker v c) (new : d ≡ resolved i.store.plain c) (same : apply_changes i.store.plain d ≡ apply_changes i.store.plain c) (reshaped changed : List ℕ) (found : List Invocation) (falls : Bool) (kept : Kept)
+    (r : IsReady (state_of i) d worker v reshaped changed found falls kept) where
+  reshaped_in_T : ReshapesOnly reshaped i.store.plain (apply_changes i.store.plain c)
+  reshaped_in_T = subst (λ (T : Plain). ReshapesOnly reshaped i.store.plain T) same r.reshapes
 
   writes_of_c : changed ≡ map (λ (w : Written). w.id) c.bodies
   writes_of_c = r.writes ∙ (ap (λ (x : Changes). map (λ (w : Written). w.id) x.bodies) new ∙ ids (state_of i) worker v c m)
 
-  found_in_T : IsFound (state_of i) (apply_changes i.store.plain c) worker v moved changed found falls
-  found_in_T = subst (λ (T : Plain). IsFound (state_of i) T worker v moved changed found falls) same r.is_found
+  found_in_T : IsFound (state_of i) (apply_changes i.store.plain c) worker v reshaped changed found falls
+  found_in_T = subst (λ (T : Plain). IsFound (state_of i) T worker v reshaped changed found falls) same r.is_found
 
   sets_of_T : AreOf i.program (apply_changes i.store.plain c) kept
   sets_of_T = subst (λ (T : Plain). AreOf i.program T kept) same r.sets
@@ -140,17 +140,17 @@ module _ (i : Inside) (worker : ℕ) (v : Invocation) (c d : Changes) (m : MayCo
   append_in vs held e h =
       subst (λ (l : List Invocation). MayAppend l held worker found) (sym e)
       (subst (λ (l : List (Option Invocation)). MayAppend i.pending.listed l worker found) (sym h)
-      (may_append (state_of i) worker v c m moved changed found falls moves_in_T writes_of_c found_in_T))
+      (may_append (state_of i) worker v c m reshaped changed found falls reshaped_in_T writes_of_c found_in_T))
 
-  its_settled : committed worker (apply_changes i.store.plain c) v (state_of i) ≡ settled_state i worker v c moved changed found falls
-  its_settled = settled (state_of i) worker v c m moved changed found falls moves_in_T writes_of_c found_in_T
+  its_settled : committed worker (apply_changes i.store.plain c) v (state_of i) ≡ settled_state i worker v c reshaped changed found falls
+  its_settled = settled (state_of i) worker v c m reshaped changed found falls reshaped_in_T writes_of_c found_in_T
 
   roomy : is_crowded i.program (apply_changes i.store.plain c) ≡ false
   roomy = found_in_T.roomy
 
 pub renew-requires-clause-append : goal.renew-requires-clause-append
 renew-requires-clause-append g c =
-    append_in c.self.inside c.args.worker c.args.v c.args.changes c.resolve.new.changes (may c.self.inside c.args.self.now c.self.view_is c.self.invariant c.args.worker c.args.v c.args.changes c.requires.holds c.requires.enabled c.requires.exits c.requires.room) c.resolve.ensures.new c.resolve.ensures.same c.in-Some.ready.moved.items c.in-Some.ready.changed.items c.in-Some.ready.found.appended c.in-Some.ready.found.falls c.make_ready.new.params.kept (some_of c.make_ready.result c.in_ok-ready.ready c.in-Some.ready (WillBeReady c.args.v c.self.inside.store.plain c.self.inside.pending.listed c.self.inside.pending.held c.self.inside.failures.failures c.self.inside.params.kept c.resolve.new.changes c.make_ready.new.params.kept) c.in_ok-ready.was c.in-Some.is c.make_ready.ensures.ready (state_of c.self.inside) c.args.worker (its_parts c.self.inside c.args.worker c.args.v c.args.changes c.self.invariant (may c.self.inside c.args.self.now c.self.view_is c.self.invariant c.args.worker c.args.v c.args.changes c.requires.holds c.requires.enabled c.requires.exits c.requires.room)))
+    append_in c.self.inside c.args.worker c.args.v c.args.changes c.resolve.new.changes (may c.self.inside c.args.self.now c.self.view_is c.self.invariant c.args.worker c.args.v c.args.changes c.requires.holds c.requires.enabled c.requires.exits c.requires.room) c.resolve.ensures.new c.resolve.ensures.same c.in-Some.ready.reshaped.items c.in-Some.ready.changed.items c.in-Some.ready.found.appended c.in-Some.ready.found.falls c.make_ready.new.params.kept (some_of c.make_ready.result c.in_ok-ready.ready c.in-Some.ready (WillBeReady c.args.v c.self.inside.store.plain c.self.inside.pending.listed c.self.inside.pending.held c.self.inside.failures.failures c.self.inside.params.kept c.resolve.new.changes c.make_ready.new.params.kept) c.in_ok-ready.was c.in-Some.is c.make_ready.ensures.ready (state_of c.self.inside) c.args.worker (its_parts c.self.inside c.args.worker c.args.v c.args.changes c.self.invariant (may c.self.inside c.args.self.now c.self.view_is c.self.invariant c.args.worker c.args.v c.args.changes c.requires.holds c.requires.enabled c.requires.exits c.requires.room)))
     c.make_ready.new.pending.listed c.make_ready.new.pending.held c.make_ready.ensures.listed c.make_ready.ensures.held
 
 pub renew-requires-clause-sets : goal.renew-requires-clause-sets
@@ -160,33 +160,33 @@ renew-requires-clause-sets g c = (c.self.inside.program, apply_changes c.self.in
 behind : (g : _) (c : goal.After-drop-ready-3 g) → state_of (record c.self.inside { store = c.publish.new.self; params = c.make_ready.new.params; pending = c.renew.new.pending; failures = c.drop_touching.new.failures; history = c.push_in.new.history }) ≡ committed c.args.worker (apply_changes c.self.inside.store.plain c.args.changes) c.args.v (state_of c.self.inside)
 behind g c =
     let r = (some_of c.make_ready.result c.in_ok-ready.ready c.in-Some.ready (WillBeReady c.args.v c.self.inside.store.plain c.self.inside.pending.listed c.self.inside.pending.held c.self.inside.failures.failures c.self.inside.params.kept c.resolve.new.changes c.make_ready.new.params.kept) c.in_ok-ready.was c.in-Some.is c.make_ready.ensures.ready (state_of c.self.inside) c.args.worker (its_parts c.self.inside c.args.worker c.args.v c.args.changes c.self.invariant (may c.self.inside c.args.self.now c.self.view_is c.self.invariant c.args.worker c.args.v c.args.changes c.requires.holds c.requires.enabled c.requires.exits c.requires.room))) in
-    let of = sets_of_T c.self.inside c.args.worker c.args.v c.args.changes c.resolve.new.changes (may c.self.inside c.args.self.now c.self.view_is c.self.invariant c.args.worker c.args.v c.args.changes c.requires.holds c.requires.enabled c.requires.exits c.requires.room) c.resolve.ensures.new c.resolve.ensures.same c.in-Some.ready.moved.items c.in-Some.ready.changed.items c.in-Some.ready.found.appended c.in-Some.ready.found.falls c.make_ready.new.params.kept r in
+    let of = sets_of_T c.self.inside c.args.worker c.args.v c.args.changes c.resolve.new.changes (may c.self.inside c.args.self.now c.self.view_is c.self.invariant c.args.worker c.args.v c.args.changes c.requires.holds c.requires.enabled c.requires.exits c.requires.room) c.resolve.ensures.new c.resolve.ensures.same c.in-Some.ready.reshaped.items c.in-Some.ready.changed.items c.in-Some.ready.found.appended c.in-Some.ready.found.falls c.make_ready.new.params.kept r in
     state_behind c.self.inside c.publish.new.self c.make_ready.new.params c.renew.new.pending c.drop_touching.new.failures c.push_in.new.history
     (apply_changes c.self.inside.store.plain c.args.changes)
-    (listed_behind c.self.inside c.args.changes c.in-Some.ready.moved.items c.in-Some.ready.found.appended c.in-Some.ready.found.falls)
+    (listed_behind c.self.inside c.args.changes c.in-Some.ready.reshaped.items c.in-Some.ready.found.appended c.in-Some.ready.found.falls)
     (set c.self.inside.pending.held c.args.worker None)
     (failures_left c.in-Some.ready.changed.items c.self.inside.failures.failures)
     (c.self.inside.history.items ++ c.args.v ∷ [])
     (c.publish.ensures.plain ∙ (ap (λ (S : Plain). apply_changes S c.resolve.new.changes) c.make_ready.ensures.store ∙ c.resolve.ensures.same))
-    (c.renew.ensures.listed c.self.inside.program (apply_changes c.self.inside.store.plain c.args.changes) of ∙ ap (λ (l : List Invocation). cond c.in-Some.ready.found.falls (filter (λ w. not (names_any c.in-Some.ready.moved.items w) || is_enabled c.self.inside.program (apply_changes c.self.inside.store.plain c.args.changes) w) l) l ++ c.in-Some.ready.found.appended) c.make_ready.ensures.listed)
+    (c.renew.ensures.listed c.self.inside.program (apply_changes c.self.inside.store.plain c.args.changes) of ∙ ap (λ (l : List Invocation). cond c.in-Some.ready.found.falls (filter (λ w. not (names_any c.in-Some.ready.reshaped.items w) || is_enabled c.self.inside.program (apply_changes c.self.inside.store.plain c.args.changes) w) l) l ++ c.in-Some.ready.found.appended) c.make_ready.ensures.listed)
     (c.renew.ensures.held ∙ ap (λ (l : List (Option Invocation)). set l c.args.worker None) c.make_ready.ensures.held)
     (c.drop_touching.ensures ∙ ap (λ (l : List ℕ). failures_left l c.self.inside.failures.failures) c.as_slice.ensures.value)
     (c.push_in.ensures ∙ ap (λ (l : List Invocation). l ++ c.args.v ∷ []) c.reserve.ensures.items)
-    ∙ sym (its_settled c.self.inside c.args.worker c.args.v c.args.changes c.resolve.new.changes (may c.self.inside c.args.self.now c.self.view_is c.self.invariant c.args.worker c.args.v c.args.changes c.requires.holds c.requires.enabled c.requires.exits c.requires.room) c.resolve.ensures.new c.resolve.ensures.same c.in-Some.ready.moved.items c.in-Some.ready.changed.items c.in-Some.ready.found.appended c.in-Some.ready.found.falls c.make_ready.new.params.kept r)
+    ∙ sym (its_settled c.self.inside c.args.worker c.args.v c.args.changes c.resolve.new.changes (may c.self.inside c.args.self.now c.self.view_is c.self.invariant c.args.worker c.args.v c.args.changes c.requires.holds c.requires.enabled c.requires.exits c.requires.room) c.resolve.ensures.new c.resolve.ensures.same c.in-Some.ready.reshaped.items c.in-Some.ready.changed.items c.in-Some.ready.found.appended c.in-Some.ready.found.falls c.make_ready.new.params.kept r)
 
 -- the event on the book
 done : (g : _) (c : goal.After-drop-ready-3 g) → commit_to (apply_changes c.args.self.now.store c.args.changes) c.args.worker c.args.v c.args.self.now ≡ answers (ends.Committed (length c.args.self.now.history + 1)) (committed c.args.worker (apply_changes c.args.self.now.store c.args.changes) c.args.v c.args.self.now)
 done g c =
     commit_done c.args.self.now (apply_changes c.args.self.now.store c.args.changes) c.args.worker c.args.v c.requires.left
     (subst (λ (x : BookState). is_crowded x.program (apply_changes x.store c.args.changes) ≡ false) c.self.view_is
-    (roomy c.self.inside c.args.worker c.args.v c.args.changes c.resolve.new.changes (may c.self.inside c.args.self.now c.self.view_is c.self.invariant c.args.worker c.args.v c.args.changes c.requires.holds c.requires.enabled c.requires.exits c.requires.room) c.resolve.ensures.new c.resolve.ensures.same c.in-Some.ready.moved.items c.in-Some.ready.changed.items c.in-Some.ready.found.appended c.in-Some.ready.found.falls c.make_ready.new.params.kept (some_of c.make_ready.result c.in_ok-ready.ready c.in-Some.ready (WillBeReady c.args.v c.self.inside.store.plain c.self.inside.pending.listed c.self.inside.pending.held c.self.inside.failures.failures c.self.inside.params.kept c.resolve.new.changes c.make_ready.new.params.kept) c.in_ok-ready.was c.in-Some.is c.make_ready.ensures.ready (state_of c.self.inside) c.args.worker (its_parts c.self.inside c.args.worker c.args.v c.args.changes c.self.invariant (may c.self.inside c.args.self.now c.self.view_is c.self.invariant c.args.worker c.args.v c.args.changes c.requires.holds c.requires.enabled c.requires.exits c.requires.room)))))
+    (roomy c.self.inside c.args.worker c.args.v c.args.changes c.resolve.new.changes (may c.self.inside c.args.self.now c.self.view_is c.self.invariant c.args.worker c.args.v c.args.changes c.requires.holds c.requires.enabled c.requires.exits c.requires.room) c.resolve.ensures.new c.resolve.ensures.same c.in-Some.ready.reshaped.items c.in-Some.ready.changed.items c.in-Some.ready.found.appended c.in-Some.ready.found.falls c.make_ready.new.params.kept (some_of c.make_ready.result c.in_ok-ready.ready c.in-Some.ready (WillBeReady c.args.v c.self.inside.store.plain c.self.inside.pending.listed c.self.inside.pending.held c.self.inside.failures.failures c.self.inside.params.kept c.resolve.new.changes c.make_ready.new.params.kept) c.in_ok-ready.was c.in-Some.is c.make_ready.ensures.ready (state_of c.self.inside) c.args.worker (its_parts c.self.inside c.args.worker c.args.v c.args.changes c.self.invariant (may c.self.inside c.args.self.now c.self.view_is c.self.invariant c.args.worker c.args.v c.args.changes c.requires.holds c.requires.enabled c.requires.exits c.requires.room)))))
 
 pub invariant_of-self-2 : goal.invariant_of-self-2
 invariant_of-self-2 g c =
     kept_behind_commit c.self.inside _ (committed c.args.worker (apply_changes c.self.inside.store.plain c.args.changes) c.args.v (state_of c.self.inside)) c.self.invariant (behind g c)
     (subst (λ (x : BookState). IsSoundBook (committed c.args.worker (apply_changes x.store c.args.changes) c.args.v x)) (sym c.self.view_is) (subst (λ (s : Step Commit). IsSoundBook s.book) (done g c) c.requires.sound))
     refl (length-set c.self.inside.pending.held c.args.worker None) refl
-    (sets_of_T c.self.inside c.args.worker c.args.v c.args.changes c.resolve.new.changes (may c.self.inside c.args.self.now c.self.view_is c.self.invariant c.args.worker c.args.v c.args.changes c.requires.holds c.requires.enabled c.requires.exits c.requires.room) c.resolve.ensures.new c.resolve.ensures.same c.in-Some.ready.moved.items c.in-Some.ready.changed.items c.in-Some.ready.found.appended c.in-Some.ready.found.falls c.make_ready.new.params.kept (some_of c.make_ready.result c.in_ok-ready.ready c.in-Some.ready (WillBeReady c.args.v c.self.inside.store.plain c.self.inside.pending.listed c.self.inside.pending.held c.self.inside.failures.failures c.self.inside.params.kept c.resolve.new.changes c.make_ready.new.params.kept) c.in_ok-ready.was c.in-Some.is c.make_ready.ensures.ready (state_of c.self.inside) c.args.worker (its_parts c.self.inside c.args.worker c.args.v c.args.changes c.self.invariant (may c.self.inside c.args.self.now c.self.view_is c.self.invariant c.args.worker c.args.v c.args.changes c.requires.holds c.requires.enabled c.requires.exits c.requires.room))))
+    (sets_of_T c.self.inside c.args.worker c.args.v c.args.changes c.resolve.new.changes (may c.self.inside c.args.self.now c.self.view_is c.self.invariant c.args.worker c.args.v c.args.changes c.requires.holds c.requires.enabled c.requires.exits c.requires.room) c.resolve.ensures.new c.resolve.ensures.same c.in-Some.ready.reshaped.items c.in-Some.ready.changed.items c.in-Some.ready.found.appended c.in-Some.ready.found.falls c.make_ready.new.params.kept (some_of c.make_ready.result c.in_ok-ready.ready c.in-Some.ready (WillBeReady c.args.v c.self.inside.store.plain c.self.inside.pending.listed c.self.inside.pending.held c.self.inside.failures.failures c.self.inside.params.kept c.resolve.new.changes c.make_ready.new.params.kept) c.in_ok-ready.was c.in-Some.is c.make_ready.ensures.ready (state_of c.self.inside) c.args.worker (its_parts c.self.inside c.args.worker c.args.v c.args.changes c.self.invariant (may c.self.inside c.args.self.now c.self.view_is c.self.invariant c.args.worker c.args.v c.args.changes c.requires.holds c.requires.enabled c.requires.exits c.requires.room))))
 
 pub returns-clause-answer : goal.returns-clause-answer
 returns-clause-answer g c = ap (λ (n : ℕ). ends.Committed n) (omega (arith, c.len.ensures, ap length c.push_in.ensures, length-append c.reserve.new.self.items (c.args.v ∷ []), ap length c.reserve.ensures.items, ap (λ (b : BookState). length b.history) c.self.view_is)) ∙ sym (ap (λ (s : Step Commit). s.answer) (done g c))

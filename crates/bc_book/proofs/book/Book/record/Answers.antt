@@ -1,7 +1,7 @@
 use Rattle.std.proofs.Common.{subst, sym}
 use Rattle.bc_mean.specs.Serial.{Failed}
-use Rattle.bc_events.specs.Book.{BookState}
-use Rattle.bc_events.specs.Sound.{IsSoundBook}
+use Rattle.bc_book_events.specs.Book.{BookState}
+use Rattle.bc_book_events.specs.Sound.{IsSoundBook}
 use Rattle.bc_book.proofs.Recording.{Addable, addable}
 use Rattle.bc_book.proofs.book.Book.record.Goals as goal
 

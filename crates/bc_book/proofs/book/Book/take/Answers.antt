@@ -1,10 +1,10 @@
 use Rattle.std.proofs.Common.{◌≡◌, ◌<◌, None, Some, length, sym, ap, subst, ◌∙◌}
 use Rattle.bc_data.specs.declared.run.Stop.TheVariants as stop
 use Rattle.bc_pending.specs.Lists.{is_allowed}
-use Rattle.bc_events.specs.declared.answers.Taken.{Taken}
-use Rattle.bc_events.specs.declared.answers.Taken.TheVariants as taken
-use Rattle.bc_events.specs.Book.{BookState, held_by}
-use Rattle.bc_events.specs.Events.{Step, answers, take}
+use Rattle.bc_book_events.specs.declared.answers.Taken.{Taken}
+use Rattle.bc_book_events.specs.declared.answers.Taken.TheVariants as taken
+use Rattle.bc_book_events.specs.Book.{BookState, held_by}
+use Rattle.bc_book_events.specs.Events.{Step, answers, take}
 use Rattle.bc_book.specs.Kept.{state_of}
 use Rattle.bc_book.proofs.Events.{take_end, take_over}
 use Rattle.bc_book.proofs.Kept.{seen, with_lists}

@@ -1,9 +1,9 @@
 use Rattle.std.proofs.lemmas.Result.{on_ok_weaker}
-use Rattle.bc_machine.proofs.Gives.{as_many, fresh_given, start_runs, unit_there}
+use Rattle.bc_machine.proofs.Gives.{as_many, can_begin, fresh_given, start_runs}
 use Rattle.bc_machine.proofs.machine.Machine.restart.Goals as goal
 
 pub restart-requires : goal.restart-requires
-restart-requires c = unit_there c.requires.0 c.requires.1 c.args.code.now c.args.v c.requires.2
+restart-requires c = can_begin c.requires.0 c.requires.1 c.args.code.now c.args.v c.requires.2
 
 pub restart-requires-2-clause-each : goal.restart-requires-2-clause-each
 restart-requires-2-clause-each c = as_many c.requires.1 c.args.v.objects c.args.bodies c.requires.3

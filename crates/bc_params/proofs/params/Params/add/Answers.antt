@@ -1,6 +1,6 @@
 use Rattle.std.proofs.Common.{◌≡◌, ◌++◌, [], ℕ, List, Option, Some, append-nil, ◌∙◌, sym, subst}
 use Rattle.bc_data.specs.declared.run.Body.{Body}
-use Rattle.bc_sets.specs.Kept.{AreSets}
+use Rattle.bc_params_sets.specs.Kept.{AreSets}
 use Rattle.bc_params.specs.Look.{put_look}
 use Rattle.bc_params.proofs.params.Params.add.Goals as goal
 

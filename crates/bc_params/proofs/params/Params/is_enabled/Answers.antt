@@ -1,7 +1,7 @@
 use Rattle.std.proofs.Common.{List, ap₂, ◌∙◌}
-use Rattle.bc_sets.specs.declared.tag_index.Binding.{Binding}
-use Rattle.bc_sets.specs.declared.place.TaskSets.{TaskSets}
-use Rattle.bc_sets.specs.Kept.{is_enabled_by}
+use Rattle.bc_params_sets.specs.declared.tag_index.Binding.{Binding}
+use Rattle.bc_params_sets.specs.declared.place.TaskSets.{TaskSets}
+use Rattle.bc_params_sets.specs.Kept.{is_enabled_by}
 use Rattle.bc_params.proofs.params.Params.is_enabled.Goals as goal
 
 pub returns : goal.returns

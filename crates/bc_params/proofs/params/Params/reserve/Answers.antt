@@ -1,5 +1,5 @@
 use Rattle.std.proofs.Common.{refl, sym, subst}
-use Rattle.bc_sets.specs.Kept.{AreSets}
+use Rattle.bc_params_sets.specs.Kept.{AreSets}
 use Rattle.bc_params.specs.Places.{ParamParts}
 use Rattle.bc_params.proofs.Updated.{roomier_sets, roomier_rise, roomier_room}
 use Rattle.bc_params.proofs.Searchable.{roomier_searchable}

@@ -1,8 +1,8 @@
 use Rattle.std.proofs.Common.{◌<◌, ◌^◌, ◌&&◌, ◌||◌, not, ◌++◌, List, sym, ap, ◌∙◌, subst, option_copied}
 use Rattle.std.specs.Prelude.{IfSome}
 use Rattle.bc_data.specs.declared.run.TagRef.{TagRef}
-use Rattle.bc_sets.specs.Bindings.{is_bound}
-use Rattle.bc_sets.specs.Kept.{AreSets}
+use Rattle.bc_params_sets.specs.Bindings.{is_bound}
+use Rattle.bc_params_sets.specs.Kept.{AreSets}
 use Rattle.bc_params.specs.declared.places.Update.{Update}
 use Rattle.bc_params.specs.Look.{is_own}
 use Rattle.bc_params.specs.Places.{ParamParts, Each, AtEachPlace, IsUpdated, update_of, flags_of}

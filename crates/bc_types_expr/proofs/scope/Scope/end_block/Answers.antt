@@ -1,6 +1,6 @@
 use Rattle.std.proofs.Common.{◌≡◌, ◌∙◌, ap, sym}
 use Rattle.std.proofs.lemmas.List.{take-map}
-use Rattle.bc_rules.specs.Context as rules
+use Rattle.bc_types_rules.specs.Context as rules
 use Rattle.bc_types_expr.specs.Scopes.{in_scope_seen, known_seen, with_first}
 use Rattle.bc_types_expr.proofs.scope.Scope.end_block.Goals as goal
 

@@ -1,0 +1,16 @@
+pub mod Book
+pub mod Steps
+pub mod Events
+pub mod Exact
+pub mod Reshaped
+pub mod Laws
+pub mod Named
+pub mod Sound
+pub mod SoundLaws
+pub mod Turns
+pub mod Core
+pub mod Lawful
+pub mod After
+pub mod SameRun
+pub mod SoundCore
+pub mod Untouched

@@ -1,0 +1,15 @@
+use Rattle.std.proofs.Common.{◌++◌, ◌∷◌, [], take, sym, ap, ◌∙◌}
+use Rattle.std.proofs.lemmas.List.{take_more}
+use Rattle.bc_data.specs.declared.run.Invocation.{Invocation}
+use Rattle.bc_book_lists.specs.Search.{is_new}
+use Rattle.bc_book_lists.proofs.Adding.{adds_more}
+use Rattle.bc_book_lists.proofs.search.add_new.Goals as goal
+
+pub loop-v-preserved : goal.loop-v-preserved
+loop-v-preserved c =
+    let offered = c.args.offered.now in
+    let i = c.loop-v.v-index in
+    adds_more (is_new c.args.before.now c.args.pending.now.held) offered i c.v-item.result c.is_new-good.result
+    c.args.found.now.items c.loop-v.found.items c.add_if.new.found.items c.loop-v.invariant
+    (take_more offered i c.v-item.result c.loop-v-test.true ∙ ap (λ (v : Invocation). take i offered ++ v ∷ []) (sym c.v-item.is))
+    c.is_new-good.ensures c.in_ok-add_if.ensures

@@ -1,5 +1,0 @@
-use Rattle.bc_commits.proofs.Published.{commits_can_be_published}
-use Rattle.bc_commits.proofs.commits_can_be_published.Goals as goal
-
-pub returns : goal.returns
-returns c = commits_can_be_published

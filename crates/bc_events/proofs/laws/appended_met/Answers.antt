@@ -1,5 +1,0 @@
-use Rattle.bc_events.proofs.Appended.{appended_met}
-use Rattle.bc_events.proofs.laws.appended_met.Goals as goal
-
-pub returns : goal.returns
-returns c = appended_met

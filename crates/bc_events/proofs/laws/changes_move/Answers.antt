@@ -1,5 +1,0 @@
-use Rattle.bc_events.proofs.Appended.{changes_move}
-use Rattle.bc_events.proofs.laws.changes_move.Goals as goal
-
-pub returns : goal.returns
-returns c = changes_move

@@ -1,5 +1,0 @@
-use Rattle.bc_events.proofs.CommitFound.{commit_met}
-use Rattle.bc_events.proofs.laws.commit_met.Goals as goal
-
-pub returns : goal.returns
-returns c = commit_met

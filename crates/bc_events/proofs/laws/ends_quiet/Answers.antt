@@ -1,5 +1,0 @@
-use Rattle.bc_events.proofs.Sound.{ends_quiet}
-use Rattle.bc_events.proofs.laws.ends_quiet.Goals as goal
-
-pub returns : goal.returns
-returns c = ends_quiet

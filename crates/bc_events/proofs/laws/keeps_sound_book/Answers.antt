@@ -1,5 +1,0 @@
-use Rattle.bc_events.proofs.Sound.{keeps_sound_book}
-use Rattle.bc_events.proofs.laws.keeps_sound_book.Goals as goal
-
-pub returns : goal.returns
-returns c = keeps_sound_book

@@ -1,5 +1,0 @@
-use Rattle.bc_events.proofs.CoreSteps.{keeps_sound_core}
-use Rattle.bc_events.proofs.laws.keeps_sound_core.Goals as goal
-
-pub returns : goal.returns
-returns c = keeps_sound_core

@@ -1,5 +1,0 @@
-use Rattle.bc_events.proofs.Turns.{turns_are_steps}
-use Rattle.bc_events.proofs.laws.turns_are_steps.Goals as goal
-
-pub returns : goal.returns
-returns c = turns_are_steps

@@ -1,5 +1,0 @@
-use Rattle.bc_fitness.proofs.Room.{commits_have_room}
-use Rattle.bc_fitness.proofs.commits_have_room.Goals as goal
-
-pub returns : goal.returns
-returns c = commits_have_room

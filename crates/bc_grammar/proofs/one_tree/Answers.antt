@@ -1,5 +1,0 @@
-use Rattle.bc_grammar.proofs.Exact as exact
-use Rattle.bc_grammar.proofs.one_tree.Goals as goal
-
-pub returns : goal.returns
-returns c = exact.one_tree

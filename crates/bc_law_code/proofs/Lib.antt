@@ -1,0 +1,14 @@
+pub mod Asked
+pub mod Bodies
+pub mod Callables
+pub mod Calls
+pub mod Costs
+pub mod Expressions
+pub mod Leads
+pub mod Lists
+pub mod Lowers
+pub mod MoreBodies
+pub mod OneExpression
+pub mod Operands
+pub mod Statements
+pub mod Whole

@@ -1,5 +1,0 @@
-use Rattle.bc_local.proofs.Runs.{runs_are_local}
-use Rattle.bc_local.proofs.runs_are_local.Goals as goal
-
-pub returns : goal.returns
-returns c = runs_are_local

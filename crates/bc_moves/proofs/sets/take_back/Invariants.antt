@@ -1,4 +1,0 @@
-use Rattle.bc_moves.proofs.sets.take_back.Given as goal
-
-abbrev pub ghosts-take_each_back : goal.ghosts-take_each_back
-ghosts-take_each_back a = record { name = a.blank.name; parts = a.blank.parts }

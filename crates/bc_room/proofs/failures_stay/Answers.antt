@@ -1,5 +1,0 @@
-use Rattle.bc_room.proofs.Room.{failures_stay}
-use Rattle.bc_room.proofs.failures_stay.Goals as goal
-
-pub returns : goal.returns
-returns c = failures_stay

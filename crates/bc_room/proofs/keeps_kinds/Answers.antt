@@ -1,5 +1,0 @@
-use Rattle.bc_room.proofs.Growth.{keeps_kinds}
-use Rattle.bc_room.proofs.keeps_kinds.Goals as goal
-
-pub returns : goal.returns
-returns c = keeps_kinds

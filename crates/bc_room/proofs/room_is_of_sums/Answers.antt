@@ -1,5 +1,0 @@
-use Rattle.bc_room.proofs.Room.{room_is_of_sums}
-use Rattle.bc_room.proofs.room_is_of_sums.Goals as goal
-
-pub returns : goal.returns
-returns c = room_is_of_sums

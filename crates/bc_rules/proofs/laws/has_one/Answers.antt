@@ -1,5 +1,0 @@
-use Rattle.bc_rules.proofs.Expressions.{one}
-use Rattle.bc_rules.proofs.laws.has_one.Goals as goal
-
-pub returns : goal.returns
-returns c = one

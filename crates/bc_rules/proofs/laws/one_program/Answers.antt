@@ -1,5 +1,0 @@
-use Rattle.bc_rules.proofs.Programs.{one_program}
-use Rattle.bc_rules.proofs.laws.one_program.Goals as goal
-
-pub returns : goal.returns
-returns c = one_program

@@ -1,5 +1,0 @@
-use Rattle.bc_runs.proofs.Areas.{areas_keep_sound}
-use Rattle.bc_runs.proofs.areas_keep_sound.Goals as goal
-
-pub returns : goal.returns
-returns c = areas_keep_sound

@@ -1,4 +1,0 @@
-use Rattle.bc_search.proofs.drops.drop_fallen.Given as goal
-
-abbrev pub ghosts-drop_each : goal.ghosts-drop_each
-ghosts-drop_each a = record { name = a.blank.name; parts = a.blank.parts }

@@ -1,5 +1,0 @@
-use Rattle.bc_simulation.proofs.MoreBodies.{code_over_more}
-use Rattle.bc_simulation.proofs.code_over_more.Goals as goal
-
-pub returns : goal.returns
-returns c = code_over_more

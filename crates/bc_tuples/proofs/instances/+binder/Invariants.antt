@@ -1,5 +1,0 @@
-use Rattle.std.proofs.Common.{length}
-use Rattle.bc_tuples.proofs.instances.+binder.Given as goal
-
-abbrev pub decreases-binder : goal.decreases-binder
-decreases-binder l = length l.places.now

@@ -1,5 +1,0 @@
-use Rattle.bc_tuples.proofs.Sets.{tuples_are_enabled}
-use Rattle.bc_tuples.proofs.laws.tuples_are_enabled.Goals as goal
-
-pub returns : goal.returns
-returns c = tuples_are_enabled
