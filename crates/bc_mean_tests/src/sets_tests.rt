@@ -34,16 +34,17 @@ struct Stores {
     kept: Store,
 }
 
-// The stores at the start.
-fn started(alloc: Global, program: &Program) -> Result<Stores, Fail>
+// The stores at the start of a run on this input.
+fn started(alloc: Global, program: &Program, input: &[u8]) -> Result<Stores, Fail>
+    requires { length input.now ≤ 65536 }
     ensures fits { IfOk result (λ s. Fits program.now s.plain) }
     ensures same { IfOk result (λ s. s.kept.plain ≡ s.plain) }
 {
     program.is_well_typed();
     start_fits();
     Ok(Stores {
-        plain: start(alloc, program, &[])?,
-        kept: Store::make(alloc, &[])?,
+        plain: start(alloc, program, input)?,
+        kept: Store::make(alloc, input)?,
     })
 }
 
@@ -102,7 +103,7 @@ fn behind_the_first(rt: &impl Abort, alloc: Global, program: &Program) -> Result
     ensures fits { IfOk result (λ s. Fits program.now s.plain) }
     ensures same { IfOk result (λ s. s.kept.plain ≡ s.plain) }
 {
-    let stores = started(alloc, program)?;
+    let stores = started(alloc, program, &[])?;
     let Some(first) = enabled(alloc, program, &stores.plain)?.pop() else {
         return Err("something is enabled at the start".into());
     };
